@@ -1,19 +1,19 @@
 -- Laws of the bytes that every floor reads, compares and lays.
 use mathlib.Core.Path.{_≡_, refl, sym, ap, ap₂, subst, _∙_}
 use mathlib.Core.Bool.{Bool, true, false}
-use mathlib.Core.List.{List, [], _∷_, _++_, append-assoc}
+use mathlib.Core.List.{List, [], _∷_, _++_, append-assoc, append-nil}
 use Prim.Native.Nat.{ℕ, zero, suc, _+_, _-_, _*_, _/_, _%_, _^_, _≤_, _<_}
 use native.Mathlib.Omega.{arith}
 use native.Mathlib.Numerals.{add-one}
-use lib.Dec.{eqb, leb}
-use lib.ListN.{length, getD, take, drop, set, length-append, length-take, length-drop}
-use lib.Seq.{take-all, take-length, drop-cons, drop-append-add, drop-drop, drop-length, take-append-seam, take-at, drop-at, paste, length-paste, ext-getD}
+use lib.Dec.{eqb, leb, lit<}
+use lib.ListN.{length, getD, take, drop, set, length-append, length-take, length-drop, replicate, drop-of-length-le}
+use lib.Seq.{getD-drop, take-all, take-length, drop-cons, drop-append-add, drop-drop, drop-length, take-append-seam, take-at, drop-at, paste, length-paste, ext-getD}
 use borrow.Author.Tests.{le-leb, lt-leb, eq-eqb, ne-eqb, eqb-true}
 use mathlib.Core.Logic.{_⊎_, inl, inr, ⊎-elim}
-use native.Mathlib.Nat.{le-refl}
+use native.Mathlib.Nat.{le-refl, sub-zero, zero-sub, suc-sub-suc}
 use native.Mathlib.Decide.{decLe}
 use Rattle.base.specs.Decide.{pick, and}
-use Rattle.base.specs.Bytes.{byteAt, same, laid, number, low, over, tab}
+use Rattle.base.specs.Bytes.{byteAt, AllBytes, same, laid, number, low, over, tab}
 
 pub ruleset tests = (borrow.Author.Tests.eq-eqb, borrow.Author.Tests.ne-eqb, borrow.Author.Tests.lt-ltb, borrow.Author.Tests.le-ltb, borrow.Author.Tests.le-leb, borrow.Author.Tests.lt-leb)
 
@@ -78,11 +78,70 @@ laid-length s i d =
     (λ h. ap length (laid-not s i d h))
     (le-or-lt (i + length s) (length d))
 
+-- ---- tabulated lists
+pub tab-length : {A : Type 0} (n : ℕ) (f : ℕ → A) → length (tab n f) ≡ n
+tab-length zero f = refl
+tab-length (suc n) f = ap suc (tab-length n (λ i. f (suc i)))
+
+pub tab-at : {A : Type 0} (d : A) (n : ℕ) (f : ℕ → A) (i : ℕ) → i < n → getD (tab n f) i d ≡ f i
+tab-at d zero f i h = absurd (omega arith)
+tab-at d (suc n) f zero h = refl
+tab-at d (suc n) f (suc i) h = tab-at d n (λ j. f (suc j)) i (omega arith)
+
+-- two tables with the same values
+pub tab-ext : {A : Type 0} (n : ℕ) (f g : ℕ → A) → ((i : ℕ) → f i ≡ g i) → tab n f ≡ tab n g
+tab-ext zero f g e = refl
+tab-ext (suc n) f g e = ap₂ (λ x xs. x ∷ xs) (e 0) (tab-ext n (λ i. f (suc i)) (λ i. g (suc i)) (λ i. e (suc i)))
+
+-- a list is the table of its numbers
+pub tab-all : (s : List ℕ) → tab (length s) (byteAt s) ≡ s
+tab-all [] = refl
+tab-all (x ∷ xs) = ap (λ l. x ∷ l) (tab-all xs)
+
+-- a table of bytes holds bytes
+pub tab-bytes : (n : ℕ) (f : ℕ → ℕ) → ((i : ℕ) → f i < 256) → AllBytes (tab n f)
+unfolding AllBytes
+tab-bytes zero f h i = lit< tt
+tab-bytes (suc n) f h zero = h 0
+tab-bytes (suc n) f h (suc i) = tab-bytes n (λ j. f (suc j)) (λ j. h (suc j)) i
+
+-- ---- bytes
+pub append-bytes : (a b : List ℕ) → AllBytes a → AllBytes b → AllBytes (a ++ b)
+unfolding AllBytes
+append-bytes [] b ha hb i = hb i
+append-bytes (x ∷ a) b ha hb zero = ha 0
+append-bytes (x ∷ a) b ha hb (suc i) = append-bytes a b (λ j. ha (suc j)) hb i
+
+pub drop-bytes : (n : ℕ) (s : List ℕ) → AllBytes s → AllBytes (drop n s)
+unfolding AllBytes
+drop-bytes n s h i = rw (getD-drop n s i 0) (h (n + i))
+
+pub take-bytes : (n : ℕ) (s : List ℕ) → AllBytes s → AllBytes (take n s)
+unfolding AllBytes
+take-bytes zero s h i = lit< tt
+take-bytes (suc n) [] h i = lit< tt
+take-bytes (suc n) (x ∷ xs) h zero = h 0
+take-bytes (suc n) (x ∷ xs) h (suc i) = take-bytes n xs (λ j. h (suc j)) i
+
 -- ---- the room: what is laid behind a reply lengthens it
 pub over-more : (p s old : List ℕ) → length p + length s ≤ length old → laid s (length p) (over p old) ≡ over (p ++ s) old
 over-more p s old h =
     laid-fits s (length p) (over p old) (simp (length-append, length-drop) (omega arith))
     ∙ simp (take-append-seam, take-length, drop-append-add, drop-drop, length-append, append-assoc)
+
+-- what is laid at the front of a room
+pub laid-front : (s old : List ℕ) → length s ≤ length old → laid s 0 old ≡ over s old
+laid-front s old h = over-more [] s old (omega arith)
+
+-- what is laid over the whole of a room
+pub laid-whole : (s old : List ℕ) → length s ≡ length old → laid s 0 old ≡ s
+laid-whole s old e =
+    laid-front s old (omega arith) ∙ ap (λ r. s ++ r) (drop-of-length-le old {i = length s} (omega arith)) ∙ append-nil s
+
+pub drop-replicate : (k n a : ℕ) → drop k (replicate n a) ≡ replicate (n - k) a
+drop-replicate zero n a = ap (λ m. replicate m a) (sym (sub-zero n))
+drop-replicate (suc k) zero a = ap (λ m. replicate m a) (sym (zero-sub (suc k)))
+drop-replicate (suc k) (suc n) a = drop-replicate k n a ∙ ap (λ m. replicate m a) (sym (suc-sub-suc n k))
 
 -- the pieces p stand at the front of b, over old, and i is their length
 pub record Holds (p old b : List ℕ) (i : ℕ) : Type 0 where

@@ -26,7 +26,7 @@ unfoldable pub laid : List ℕ → ℕ → List ℕ → List ℕ
 laid s i d = pick (leb (i + length s) (length d)) (take i d ++ s ++ drop (i + length s) d) d
 
 -- the first n values of f, in order
-abbrev pub tab : ℕ → (ℕ → ℕ) → List ℕ
+abbrev pub tab : {A : Type 0} → ℕ → (ℕ → A) → List A
 tab zero f = []
 tab (suc n) f = f 0 ∷ tab n (λ i. f (suc i))
 

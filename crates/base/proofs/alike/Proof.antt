@@ -8,8 +8,6 @@ use Rattle.base.specs.Bytes.{same}
 use Rattle.base.proofs.Bytes.{same-lengths, same-step}
 use Rattle.base.proofs.alike.Statement.{statement}
 use Rattle.base.proofs.alike.Tie as tie
-use Rattle.base.proofs.alike.Reads as reads
-use Rattle.base.proofs.alike.Lts as lts
 
 abbrev Inv-loop : tie.InvT-loop
 Inv-loop a b i₀ i = (i ≤ length a) × (length a ≡ length b) × (same (drop i a) (drop i b) ≡ same a b)
@@ -17,39 +15,30 @@ Inv-loop a b i₀ i = (i ≤ length a) × (length a ≡ length b) × (same (drop
 abbrev μ-loop : tie.MeasureT-loop
 μ-loop a b i₀ i = length a - i
 
--- src/lib.rt:20:9
 returns : tie.Need-returns Inv-loop μ-loop
 returns c = sym (same-lengths _ _ (c .if1 .taken))
 
--- src/lib.rt:23:5
 loop-holds : tie.Need-loop-holds Inv-loop μ-loop
 loop-holds c = (omega arith, c .if1 .left, refl)
 
--- src/lib.rt:24:12
 shared-slice-read-if2 : tie.Need-shared-slice-read-if2 Inv-loop μ-loop
 shared-slice-read-if2 c = omega arith
 
--- src/lib.rt:24:20
 shared-slice-read-if2-2 : tie.Need-shared-slice-read-if2-2 Inv-loop μ-loop
 shared-slice-read-if2-2 c = omega arith
 
--- src/lib.rt:25:13
 returns-2 : tie.Need-returns-2 Inv-loop μ-loop
 returns-2 c = sym (let a = c .before .before .before .before .before .before .args in sym (c .before .before .before .before .loop .inv .2) ∙ same-step (a .a .now) (a .b .now) (c .before .before .before .before .loop .i) (omega arith) (omega arith) ∙ simp (ne-eqb _ _ (c .if2 .taken)))
 
--- src/lib.rt:27:9
 add-i : tie.Need-add-i Inv-loop μ-loop
 add-i c = omega arith
 
--- src/lib.rt:23:5
 loop-less : tie.Need-loop-less Inv-loop μ-loop
 loop-less c = omega arith
 
--- src/lib.rt:23:5
 loop-again : tie.Need-loop-again Inv-loop μ-loop
 loop-again c = let a = c .before .before .before .before .before .before .args in (omega arith, c .before .before .before .before .before .if1 .left, sym (same-step (a .a .now) (a .b .now) (c .before .before .before .before .loop .i) (omega arith) (omega arith) ∙ simp (eq-eqb _ _ (c .if2 .left))) ∙ c .before .before .before .before .loop .inv .2)
 
--- src/lib.rt:16:1
 returns-3 : tie.Need-returns-3 Inv-loop μ-loop
 unfolding same
 returns-3 c = let a = c .before .before .before .args in sym (sym (c .before .loop .inv .2) ∙ rw (drop-of-length-le (a .a .now) {i = c .before .loop .i} (omega arith), drop-of-length-le (a .b .now) {i = c .before .loop .i} (omega arith)))

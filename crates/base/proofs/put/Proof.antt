@@ -1,6 +1,6 @@
 -- `base::put` meets its contract: each turn lays one byte more.
 use Prim.Native.Nat.{_≤_, _+_, _-_}
-use mathlib.Core.Path.{_≡_, refl, sym, ap, _∙_}
+use mathlib.Core.Path.{_≡_, sym, ap, _∙_}
 use native.Mathlib.Numerals.{add-one}
 use native.Mathlib.Omega.{arith}
 use lib.ListN.{length}
@@ -8,8 +8,6 @@ use lib.Seq.{paste, paste-zero, paste-suc, length-paste}
 use Rattle.base.proofs.Bytes.{laid-not, laid-fits}
 use Rattle.base.proofs.put.Statement.{statement}
 use Rattle.base.proofs.put.Tie as tie
-use Rattle.base.proofs.put.Reads as reads
-use Rattle.base.proofs.put.Lts as lts
 
 abbrev Inv-loop : tie.InvT-loop
 Inv-loop src dst₀ at i₀ dst i = (i ≤ length src) × (at + length src ≤ length dst₀) × (dst ≡ paste dst₀ at src i)
@@ -17,51 +15,39 @@ Inv-loop src dst₀ at i₀ dst i = (i ≤ length src) × (at + length src ≤ l
 abbrev μ-loop : tie.MeasureT-loop
 μ-loop src dst₀ at i₀ dst i = length src - i
 
--- src/lib.rt:37:9
 returns : tie.Need-returns Inv-loop μ-loop
 returns c = sym (laid-not _ _ _ (omega arith))
 
--- src/lib.rt:39:8
 sub-if2 : tie.Need-sub-if2 Inv-loop μ-loop
 sub-if2 c = omega arith
 
--- src/lib.rt:40:9
 returns-2 : tie.Need-returns-2 Inv-loop μ-loop
 returns-2 c = sym (laid-not _ _ _ (omega arith))
 
--- src/lib.rt:43:5
 loop-holds : tie.Need-loop-holds Inv-loop μ-loop
 loop-holds c = let a = c .before .before .args in (omega arith, omega arith, paste-zero (a .dst .now) (a .at) (a .src .now))
 
--- src/lib.rt:44:23
 shared-slice-read-dst : tie.Need-shared-slice-read-dst Inv-loop μ-loop
 shared-slice-read-dst c = omega arith
 
--- src/lib.rt:44:13
 add-dst : tie.Need-add-dst Inv-loop μ-loop
 add-dst c = omega arith
 
--- src/lib.rt:44:9
 slice-write-dst : tie.Need-slice-write-dst Inv-loop μ-loop
 slice-write-dst c = let a = c .before .before .before .before .before .args in let l : length (c .before .before .loop .dst) ≡ length (a .dst .now) = ap length (c .before .before .loop .inv .2) ∙ length-paste (a .dst .now) (a .at) (a .src .now) (c .before .before .loop .i) (omega arith) (omega arith) in omega arith
 
--- src/lib.rt:45:9
 add-i : tie.Need-add-i Inv-loop μ-loop
 add-i c = omega arith
 
--- src/lib.rt:43:5
 loop-less : tie.Need-loop-less Inv-loop μ-loop
 loop-less c = omega arith
 
--- src/lib.rt:43:5
 loop-again : tie.Need-loop-again Inv-loop μ-loop
 loop-again c = let a = c .before .before .before .before .before .args in (omega arith, omega arith, rw (c .before .before .loop .inv .2, add-one) (paste-suc (a .dst .now) (a .at) (a .src .now) (c .before .before .loop .i) 0 (omega arith) (omega arith)))
 
--- src/lib.rt:33:1
 same-length : tie.Need-same-length Inv-loop μ-loop
 same-length c = let a = c .before .before .before .before .args in let l : length (c .before .loop .dst) ≡ length (a .dst .now) = ap length (c .before .loop .inv .2) ∙ length-paste (a .dst .now) (a .at) (a .src .now) (c .before .loop .i) (omega arith) (omega arith) in l
 
--- src/lib.rt:33:1
 returns-3 : tie.Need-returns-3 Inv-loop μ-loop
 returns-3 c = let a = c .before .before .before .before .args in let e : c .before .loop .i ≡ length (a .src .now) = omega arith in c .before .loop .inv .2 ∙ ap (λ n. paste (a .dst .now) (a .at) (a .src .now) n) e ∙ sym (laid-fits (a .src .now) (a .at) (a .dst .now) (omega arith))
 

@@ -1,0 +1,9 @@
+pub mod Chaining
+pub mod Inverse
+pub mod KeyBlocks
+pub mod Macs
+pub mod Rounds
+pub mod Schedule
+pub mod Steps
+pub mod Turns
+pub mod Worked

@@ -1,0 +1,74 @@
+-- `aes::keys::expand` meets its contract: each turn makes the next round key, as the standard's words give it.
+use Rattle.sbox.specs.Field.{xtime}
+use mathlib.Core.Path.{_≡_, refl, sym, ap, _∙_}
+use mathlib.Core.List.{[]}
+use Prim.Native.Nat.{_+_, _-_, _≤_}
+use native.Mathlib.Omega.{arith}
+use lib.ListN.{length}
+use Rattle.base.proofs.Fill.{Filled, filled-more, filled-all}
+use Rattle.aes.specs.Keys.{rcon, roundWords, keyExpansion}
+use Rattle.aes.proofs.Schedule.{round-next, round-first, rcon-more}
+use borrow.Author.Needs.{needs}
+use Rattle.aes.proofs.keys.expand.Statement.{statement}
+use Rattle.aes.proofs.keys.expand.Tie as tie
+
+abbrev Inv-loop : tie.InvT-loop
+Inv-loop t w₀ k₀ rc₀ i₀ w k rc i = (i ≤ 10) × (length k₀ ≡ 16) × (rc ≡ rcon (i + 1)) × (k ≡ roundWords k₀ i) × Filled [] 11 (roundWords k₀) w (i + 1)
+
+abbrev μ-loop : tie.MeasureT-loop
+μ-loop t w₀ k₀ rc₀ i₀ w k rc i = 10 - i
+
+forward-requires : tie.Need-forward-requires Inv-loop μ-loop
+forward-requires c κs = search needs
+
+loop-holds : tie.Need-loop-holds Inv-loop μ-loop
+unfolding rcon
+loop-holds c = let key = c .before .args .key in let l : length key ≡ 16 = search needs in
+    (omega arith, l, refl, sym (round-first key l), record { long = refl; so-far = λ j h. let e : j ≡ 0 = omega arith in rw e (sym (round-first key l)) })
+
+next-key-requires : tie.Need-next-key-requires Inv-loop μ-loop
+next-key-requires c κs = search needs
+
+double-requires : tie.Need-double-requires Inv-loop μ-loop
+double-requires c κs = search needs
+
+add-w : tie.Need-add-w Inv-loop μ-loop
+add-w c = search needs
+
+mul-w : tie.Need-mul-w Inv-loop μ-loop
+mul-w c = search needs
+
+array-set-from-w : tie.Need-array-set-from-w Inv-loop μ-loop
+array-set-from-w c = search needs
+
+add-i : tie.Need-add-i Inv-loop μ-loop
+add-i c = search needs
+
+loop-less : tie.Need-loop-less Inv-loop μ-loop
+loop-less c = search needs
+
+loop-again : tie.Need-loop-again Inv-loop μ-loop
+loop-again c = let n : c .before .next-key .result ≡ roundWords (c .before .before .before .before .before .before .args .key) (c .before .before .before .before .loop .i + 1) = c .before .next-key .ensures ∙ rw (c .before .before .before .before .before .forward .ensures, c .before .before .before .before .loop .inv .2, c .before .before .before .before .loop .inv .3) (sym (round-next (c .before .before .before .before .before .before .args .key) (c .before .before .before .before .loop .inv .1) (c .before .before .before .before .loop .i))) in
+    (omega arith, c .before .before .before .before .loop .inv .1, c .double .ensures ∙ ap xtime (c .before .before .before .before .loop .inv .2) ∙ sym (rcon-more (c .before .before .before .before .loop .i)), n, filled-more [] 11 _ _ (c .before .before .before .before .loop .i + 1) _ (c .before .before .before .before .loop .inv .4) (omega arith) n)
+
+returns : tie.Need-returns Inv-loop μ-loop
+unfolding keyExpansion
+returns c = filled-all [] 11 _ _ _ (c .before .loop .inv .4) (omega arith)
+
+pub expand-spec : {M : Type 1} → statement M
+expand-spec =
+    tie.close
+    (tie.spec
+    Inv-loop
+    μ-loop
+    forward-requires
+    loop-holds
+    next-key-requires
+    double-requires
+    add-w
+    mul-w
+    array-set-from-w
+    add-i
+    loop-less
+    loop-again
+    returns)

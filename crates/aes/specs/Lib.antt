@@ -1,0 +1,5 @@
+pub mod Block
+pub mod Cbc
+pub mod Cmac
+pub mod Keys
+pub mod NextKey

@@ -1,0 +1,64 @@
+// Cipher block chaining over a lent buffer, in place (SP 800-38A, section 6.2).
+ghost use mathlib.Core.Path.{_≡_};
+ghost use Rattle.aes.specs.Cbc.{blockAt, Chains, cbcOut, cbcBack};
+use crate::Chained;
+use crate::block::decrypt;
+use crate::block::encrypt;
+use crate::block::xor_block;
+
+// The block that starts at an index; zeros where the slice ends before it does.
+pub fn load(s: &[u8], at: usize) -> [u8; 16]
+    ensures { λ r. ⌜ r ≡ blockAt (now (s .entry)) at ⌝ }
+{
+    let mut r = [0u8; 16];
+    if s.len() < 16 {
+        return r;
+    }
+    if s.len() - 16 < at {
+        return r;
+    }
+    base::put(&s[at..at + 16], &mut r, 0);
+    r
+}
+
+// Encrypts a buffer, from an initial vector.
+pub fn cbc_encrypt(w: &[[u8; 16]; 11], iv: [u8; 16], buf: &mut [u8]) -> Chained
+    ensures { λ r. ⌜ Chains (cbcOut (now (w .entry)) iv) (now (buf .entry)) r (now (buf .exit)) ⌝ }
+{
+    if buf.len() % 16 != 0 {
+        return Chained::Ragged;
+    }
+    let mut v = iv;
+    let mut at = 0;
+    let mut left = buf.len() / 16;
+    while 0 < left {
+        let p = load(buf, at);
+        let c = encrypt(w, xor_block(p, v));
+        base::put(&c, buf, at);
+        v = c;
+        at += 16;
+        left -= 1;
+    }
+    Chained::Done
+}
+
+// Decrypts a buffer, from an initial vector.
+pub fn cbc_decrypt(w: &[[u8; 16]; 11], iv: [u8; 16], buf: &mut [u8]) -> Chained
+    ensures { λ r. ⌜ Chains (cbcBack (now (w .entry)) iv) (now (buf .entry)) r (now (buf .exit)) ⌝ }
+{
+    if buf.len() % 16 != 0 {
+        return Chained::Ragged;
+    }
+    let mut v = iv;
+    let mut at = 0;
+    let mut left = buf.len() / 16;
+    while 0 < left {
+        let c = load(buf, at);
+        let p = xor_block(decrypt(w, c), v);
+        base::put(&p, buf, at);
+        v = c;
+        at += 16;
+        left -= 1;
+    }
+    Chained::Done
+}

@@ -1,0 +1,4 @@
+pub mod Columns
+pub mod Linear
+pub mod Rule
+pub mod Table
