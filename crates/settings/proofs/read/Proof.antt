@@ -1,0 +1,31 @@
+-- `settings::read` meets its contract.
+use borrow.Author.Needs.{needs}
+use mathlib.Core.Path.{refl, sym, ap, _∙_}
+use Rattle.settings.specs.declared.Told.the-variants.{Means}
+use Rattle.settings.specs.Answers.{readAs}
+use Rattle.settings.proofs.read.Statement.{statement}
+use Rattle.settings.proofs.read.Tie as tie
+
+judge-requires : tie.Need-judge-requires
+judge-requires c κs = search needs
+
+enum-told : tie.Need-enum-told
+enum-told c = search needs
+
+meaning-requires : tie.Need-meaning-requires
+meaning-requires c κs = search needs
+
+enum-known-v : tie.Need-enum-known-v
+enum-known-v c = search needs
+
+returns : tie.Need-returns
+unfolding readAs
+returns c = rw (sym (c .before .before .before .judge .ensures) ∙ c .before .enum-told .given .1) (ap Means (c .meaning .ensures))
+
+returns-2 : tie.Need-returns-2
+unfolding readAs
+returns-2 c = rw (sym (c .before .before .before .judge .ensures) ∙ c .before .v .given .1) refl
+
+pub read-spec : {M : Type 1} → statement M
+read-spec =
+    tie.close (tie.spec judge-requires enum-told meaning-requires enum-known-v returns returns-2)

@@ -1,0 +1,15 @@
+-- `settings::rules::is_mode` meets its contract.
+use Rattle.settings.specs.Rules.{modes}
+use borrow.Author.Needs.{needs}
+use Rattle.settings.proofs.rules.is_mode.Statement.{statement}
+use Rattle.settings.proofs.rules.is_mode.Tie as tie
+
+either-requires : tie.Need-either-requires
+either-requires c κs = search needs
+
+returns : tie.Need-returns
+unfolding modes
+returns c = cc
+
+pub is-mode-spec : {M : Type 1} → statement M
+is-mode-spec = tie.close (tie.spec either-requires returns)

@@ -1,0 +1,5 @@
+pub mod Fields
+pub mod Spans
+pub mod Rules
+pub mod Normal
+pub mod Answers

@@ -1,0 +1,194 @@
+// Settings strings (Tables 69 and 73): judged, normalised, read and written, without any cryptography.
+ghost use mathlib.Core.Path.{_≡_};
+ghost use Rattle.settings.specs.Fields.{readOf};
+ghost use Rattle.settings.specs.Spans.{readingOf};
+ghost use Rattle.settings.specs.Rules.{meets};
+ghost use Rattle.settings.specs.Answers.{statusWord, judged, normalised, normalRoom, readAs, writtenAs, writtenRoom};
+
+mod fields;
+mod front;
+mod rules;
+mod spans;
+mod text;
+mod truth;
+
+// The fields in front: CommMode (0 Plain, 1 MAC, 3 Full), the rights Read, Write, ReadWrite and Change, SDM, the four
+// options, SDMMetaRead, SDMFileRead and SDMCtrRet. With SDM off the parts of SDM are 0.
+pub struct Head {
+    pub mode: u8,
+    pub read: u8,
+    pub write: u8,
+    pub both: u8,
+    pub change: u8,
+    pub sdm: bool,
+    pub uid: bool,
+    pub counter: bool,
+    pub limit: bool,
+    pub enc: bool,
+    pub meta: u8,
+    pub file: u8,
+    pub ret: u8,
+}
+
+// The fields behind, 0 where not there: UIDOffset, SDMReadCtrOffset, PICCDataOffset, SDMMACInputOffset, SDMENCOffset,
+// SDMENCLength, SDMMACOffset, SDMReadCtrLimit.
+pub struct Places {
+    pub uid: u32,
+    pub counter: u32,
+    pub picc: u32,
+    pub input: u32,
+    pub enc: u32,
+    pub size: u32,
+    pub mac: u32,
+    pub limit: u32,
+}
+
+// What a string means.
+pub struct Settings {
+    pub head: Head,
+    pub places: Places,
+}
+
+// Bytes of the file that a mirror takes; one that is not there starts at 0 and has none.
+pub struct Span {
+    pub present: bool,
+    pub start: u32,
+    pub size: u32,
+}
+
+// What a string means, with the spans of its mirrors.
+pub struct Reading {
+    pub settings: Settings,
+    pub uid: Span,
+    pub counter: Span,
+    pub picc: Span,
+    pub enc: Span,
+    pub mac: Span,
+}
+
+// 917E and 919E of Table 71.
+pub enum Status {
+    LengthError,
+    ParameterError,
+}
+
+pub enum Verdict {
+    Good,
+    Refused(Status),
+}
+
+// The parts that 01 calls missing, the last for a whole length that is wrong.
+pub enum Part {
+    OptionByte,
+    RightsBytes,
+    SdmOptionsByte,
+    SdmRightsBytes,
+    Whole,
+}
+
+// The tests of 01, in its order.
+pub enum Check {
+    OptionBits,
+    SdmFile,
+    Rights,
+    SdmOptionsBits,
+    SdmRights,
+    MetaMirrors,
+    MetaOff,
+    EncNeeds,
+    EncSize,
+    UidInside,
+    CounterInside,
+    PiccInside,
+    EncInside,
+    MacInside,
+    Shared,
+    MacInput,
+    EncBetween,
+}
+
+// The first rule that a string breaks.
+pub enum Finding {
+    Kept,
+    Missing(Part),
+    Wrong(Check),
+}
+
+// What normalising answers: the length of the normal string, or why there is none.
+pub enum Normalised {
+    Normal(usize),
+    BadString(Status),
+    RoomTooSmall,
+}
+
+// What reading answers.
+pub enum Told {
+    Means(Reading),
+    Unread(Status),
+}
+
+// What writing a record answers: the length of its string, or why there is none.
+pub enum Written {
+    Laid(usize),
+    BadRecord,
+    NoRoom,
+}
+
+// The number of a status.
+pub fn status_word(s: Status) -> u16
+    ensures { λ r. ⌜ r ≡ statusWord s ⌝ }
+{
+    match s {
+        Status::LengthError => 0x917E,
+        Status::ParameterError => 0x919E,
+    }
+}
+
+// Whether a string is good for a file, or its status.
+pub fn judge(file: u8, s: &[u8]) -> Verdict
+    ensures { λ r. ⌜ r ≡ judged file (now (s .entry)) ⌝ }
+{
+    rules::verdict(rules::broken(file, s))
+}
+
+// The normal string at the front of the room, with its length. A refusal leaves the room.
+pub fn normalise(file: u8, s: &[u8], room: &mut [u8]) -> Normalised
+    ensures answer { λ r. ⌜ r ≡ normalised (judged file (now (s .entry))) (now (s .entry)) (now (room .entry)) ⌝ }
+    ensures left { λ r. ⌜ now (room .exit) ≡ normalRoom (judged file (now (s .entry))) (now (s .entry)) (now (room .entry)) ⌝ }
+{
+    let v = judge(file, s);
+    match v {
+        Verdict::Good => text::lay_normal(s, room),
+        Verdict::Refused(e) => Normalised::BadString(e),
+    }
+}
+
+// What the bytes mean, whether the string is good or not: 0 stands for a byte that is not there.
+pub fn meaning(s: &[u8]) -> Reading
+    ensures { λ r. ⌜ r ≡ readingOf (readOf (now (s .entry))) ⌝ }
+{
+    spans::with_spans(fields::settings(s))
+}
+
+// What a good string means, or the status of a bad one.
+pub fn read(file: u8, s: &[u8]) -> Told
+    ensures { λ r. ⌜ r ≡ readAs (judged file (now (s .entry))) (now (s .entry)) ⌝ }
+{
+    let v = judge(file, s);
+    match v {
+        Verdict::Good => Told::Means(meaning(s)),
+        Verdict::Refused(e) => Told::Unread(e),
+    }
+}
+
+// The normal string of a record at the front of the room, with its length. A refusal leaves the room.
+pub fn write(file: u8, r: Settings, room: &mut [u8]) -> Written
+    ensures answer { λ w. ⌜ w ≡ writtenAs (meets file r) r (now (room .entry)) ⌝ }
+    ensures left { λ w. ⌜ now (room .exit) ≡ writtenRoom (meets file r) r (now (room .entry)) ⌝ }
+{
+    let ok = rules::record_meets(file, r);
+    if ok {
+        return text::lay_record(r, room);
+    }
+    Written::BadRecord
+}
