@@ -1,5 +1,6 @@
 // The block, both ways (FIPS 197, sections 5.1 and 5.3). The tables are loaded once at an entry and lent on.
 ghost use mathlib.Core.Path.{_≡_};
+ghost use mathlib.Core.List.{[], _∷_};
 ghost use Rattle.sbox.specs.Field.{xtime, mul};
 ghost use Rattle.sbox.specs.Columns.{mixed, unmixed};
 ghost use Rattle.aes.specs.Block.{xorBlock, substitute, shiftRows, invShiftRows, mixColumns, invMixColumns, addRoundKey, cipher, invCipher};
@@ -94,24 +95,43 @@ fn unmix(a: u8, b: u8, c: u8, d: u8) -> u8
     times_14(a) ^ times_11(b) ^ times_13(c) ^ times_9(d)
 }
 
+// A column (5.1.3).
+fn mix_column(a: u8, b: u8, c: u8, d: u8) -> [u8; 4]
+    ensures { λ r. ⌜ r ≡ mixed a b c d ∷ mixed b c d a ∷ mixed c d a b ∷ mixed d a b c ∷ [] ⌝ }
+{
+    let w = mix(a, b, c, d);
+    let x = mix(b, c, d, a);
+    let y = mix(c, d, a, b);
+    let z = mix(d, a, b, c);
+    [w, x, y, z]
+}
+
 // 5.1.3
 fn mix_columns(s: [u8; 16]) -> [u8; 16]
     ensures { λ r. ⌜ r ≡ mixColumns s ⌝ }
 {
-    let mut r = [0u8; 16];
-    let mut i = 0;
-    while i < 16 {
-        let top = 4 * (i / 4);
-        let x = mix(
-            s[i],
-            s[top + (i + 1) % 4],
-            s[top + (i + 2) % 4],
-            s[top + (i + 3) % 4],
-        );
-        r[i] = x;
-        i += 1;
-    }
-    r
+    let a = mix_column(s[0], s[1], s[2], s[3]);
+    let b = mix_column(s[4], s[5], s[6], s[7]);
+    let c = mix_column(s[8], s[9], s[10], s[11]);
+    let d = mix_column(s[12], s[13], s[14], s[15]);
+    [
+        a[0],
+        a[1],
+        a[2],
+        a[3],
+        b[0],
+        b[1],
+        b[2],
+        b[3],
+        c[0],
+        c[1],
+        c[2],
+        c[3],
+        d[0],
+        d[1],
+        d[2],
+        d[3],
+    ]
 }
 
 // 5.3.3

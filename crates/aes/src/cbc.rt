@@ -33,9 +33,9 @@ pub fn cbc_encrypt(w: &[[u8; 16]; 11], iv: [u8; 16], buf: &mut [u8]) -> Chained
     let mut left = buf.len() / 16;
     while 0 < left {
         let p = load(buf, at);
-        let c = encrypt(w, xor_block(p, v));
-        base::put(&c, buf, at);
-        v = c;
+        let out = encrypt(w, xor_block(p, v));
+        base::put(&out, buf, at);
+        v = out;
         at += 16;
         left -= 1;
     }

@@ -1,0 +1,148 @@
+// Each kind of vector, with the round keys of its key.
+use crate::words;
+
+// Whether bytes of ours are a word of the line; else they are printed.
+fn same(line: &[u8], k: usize, ours: &[u8]) -> bool {
+    let mut room = [0u8; 512];
+    lines::encode(ours, &mut room);
+    same_front(line, k, &room, ours.len())
+}
+
+// The same of the digits of n bytes, at the front of a room.
+fn same_front(line: &[u8], k: usize, room: &[u8], n: usize) -> bool {
+    if room.len() / 2 < n {
+        return words::differs(line, b"too long");
+    }
+    if words::is(line, k, &room[..n * 2]) {
+        return true;
+    }
+    words::differs(line, &room[..n * 2])
+}
+
+fn lay_one(k: [u8; 16], room: &mut [u8], at: usize) {
+    base::put(&k, room, at);
+}
+
+// The round keys one behind the other.
+fn lay(w: &[[u8; 16]; 11], room: &mut [u8]) {
+    let mut i = 0;
+    while i < 11 {
+        let k = w[i];
+        lay_one(k, room, i * 16);
+        i += 1;
+    }
+}
+
+pub fn keys(w: &[[u8; 16]; 11], line: &[u8]) -> bool {
+    let mut room = [0u8; 176];
+    lay(w, &mut room);
+    same(line, 3, &room)
+}
+
+// One block, or one block back.
+fn block(w: &[[u8; 16]; 11], back: bool, s: &[u8]) -> [u8; 16] {
+    let mut x = [0u8; 16];
+    base::put(s, &mut x, 0);
+    if back {
+        return aes::decrypt(w, x);
+    }
+    aes::encrypt(w, x)
+}
+
+// Every whole block by itself.
+fn blocks(w: &[[u8; 16]; 11], back: bool, buf: &mut [u8]) {
+    let mut at = 0;
+    let mut left = buf.len() / 16;
+    while 0 < left {
+        let x = block(w, back, &buf[at..at + 16]);
+        base::put(&x, buf, at);
+        at += 16;
+        left -= 1;
+    }
+}
+
+// Chained from the line's initial vector.
+fn chain(w: &[[u8; 16]; 11], back: bool, line: &[u8], buf: &mut [u8]) {
+    let mut iv = [0u8; 16];
+    words::field(line, 3, &mut iv);
+    if back {
+        aes::cbc_decrypt(w, iv, buf);
+        return;
+    }
+    aes::cbc_encrypt(w, iv, buf);
+}
+
+fn through(w: &[[u8; 16]; 11], chained: bool, back: bool, line: &[u8], buf: &mut [u8]) {
+    if chained {
+        chain(w, back, line, buf);
+        return;
+    }
+    blocks(w, back, buf);
+}
+
+// Whether a buffer comes out as a word of the line.
+fn comes_out(
+    w: &[[u8; 16]; 11],
+    chained: bool,
+    back: bool,
+    line: &[u8],
+    buf: &mut [u8],
+    to: usize,
+) -> bool {
+    through(w, chained, back, line, buf);
+    same(line, to, buf)
+}
+
+// Whether one word of the line gives another.
+fn gives(
+    w: &[[u8; 16]; 11],
+    chained: bool,
+    back: bool,
+    line: &[u8],
+    from: usize,
+    to: usize,
+) -> bool {
+    let mut room = [0u8; 256];
+    let n = words::field(line, from, &mut room);
+    if room.len() < n {
+        return words::differs(line, b"no digits");
+    }
+    comes_out(w, chained, back, line, &mut room[..n], to)
+}
+
+// Both ways.
+pub fn ciphers(
+    w: &[[u8; 16]; 11],
+    chained: bool,
+    line: &[u8],
+    plain: usize,
+    cipher: usize,
+) -> bool {
+    if gives(w, chained, false, line, plain, cipher) {
+        return gives(w, chained, true, line, cipher, plain);
+    }
+    false
+}
+
+// The tag of a message is the line's, or, where it must not be, is not.
+fn tag_agrees(w: &[[u8; 16]; 11], line: &[u8], message: &[u8], good: bool) -> bool {
+    let tag = aes::cmac_of(w, message);
+    if good {
+        return same(line, 4, &tag);
+    }
+    let mut theirs = [0u8; 16];
+    words::field(line, 4, &mut theirs);
+    if base::alike(&tag, &theirs) {
+        return words::differs(line, b"the tag matches");
+    }
+    true
+}
+
+pub fn cmac(w: &[[u8; 16]; 11], line: &[u8], good: bool) -> bool {
+    let mut room = [0u8; 256];
+    let n = words::field(line, 3, &mut room);
+    if room.len() < n {
+        return words::differs(line, b"no digits");
+    }
+    tag_agrees(w, line, &room[..n], good)
+}

@@ -1,0 +1,9 @@
+pub mod Authenticating
+pub mod Closing
+pub mod CrcSteps
+pub mod Mirroring
+pub mod Opening
+pub mod PartTwos
+pub mod Pieces
+pub mod Unpadding
+pub mod Wrapping

@@ -1,0 +1,42 @@
+-- `messaging::authentication::decipher` meets its contract: 32 bytes laid over 32, then decrypted.
+use Rattle.messaging.specs.Authentication.{deciphered, zeros}
+use Rattle.messaging.proofs.Pieces.{chained}
+use Rattle.base.proofs.Bytes.{laid-whole}
+use Rattle.aes.specs.Cbc.{cbcBack}
+use lib.ListN.{length}
+use mathlib.Core.Path.{_≡_, refl, ap, ap₂, _∙_}
+use borrow.Author.Needs.{needs}
+use Rattle.messaging.proofs.authentication.decipher.Statement.{statement}
+use Rattle.messaging.proofs.authentication.decipher.Tie as tie
+
+expand-requires : tie.Need-expand-requires
+expand-requires c κs = search needs
+
+slice-aggregate-put : tie.Need-slice-aggregate-put
+slice-aggregate-put c = search needs
+
+put-requires : tie.Need-put-requires
+put-requires c κs = search needs
+
+slice-aggregate-cbc-decrypt : tie.Need-slice-aggregate-cbc-decrypt
+slice-aggregate-cbc-decrypt c = search needs
+
+cbc-decrypt-requires : tie.Need-cbc-decrypt-requires
+cbc-decrypt-requires c κs = search needs
+
+returns : tie.Need-returns
+unfolding deciphered
+returns c = let x = c .before .before .before .before .before .before .before .before .before .args .x .now in let l : length x ≡ 32 = c .before .before .before .before .before .before .before .before .before .pre in
+    let e = c .before .before .before .before .before .put .ensures ∙ laid-whole x (zeros 32) l in
+    chained (c .before .cbc-decrypt .ensures) (rw (ap length e ∙ l) refl) ∙ ap₂ (λ w y. cbcBack w (zeros 16) y) (c .before .before .before .before .before .before .before .expand .ensures) e
+
+pub decipher-spec : {M : Type 1} → statement M
+decipher-spec =
+    tie.close
+    (tie.spec
+    expand-requires
+    slice-aggregate-put
+    put-requires
+    slice-aggregate-cbc-decrypt
+    cbc-decrypt-requires
+    returns)

@@ -1,0 +1,49 @@
+-- `messaging::reply::sign` meets its contract: the MAC is a piece behind the rest.
+use Rattle.messaging.proofs.Closing.{seals}
+use Rattle.messaging.proofs.Pieces.{also, fronted}
+use lib.Seq.{length-take-le}
+use lib.ListN.{length, length-take}
+use native.Mathlib.Omega.{arith}
+use Prim.Native.Nat.{_+_}
+use mathlib.Core.Path.{_≡_, sym}
+use borrow.Author.Needs.{needs}
+use Rattle.messaging.proofs.reply.sign.Statement.{statement}
+use Rattle.messaging.proofs.reply.sign.Tie as tie
+
+slice-reshare-prefix-message-mac : tie.Need-slice-reshare-prefix-message-mac
+slice-reshare-prefix-message-mac c = search needs
+
+slice-aggregate-message-mac : tie.Need-slice-aggregate-message-mac
+slice-aggregate-message-mac c = let a = c .before .before .args in sym (length-take-le (a .n) (a .room .now) (omega arith))
+
+message-mac-requires : tie.Need-message-mac-requires
+message-mac-requires c κs = simp length-take (omega arith)
+
+slice-aggregate-put : tie.Need-slice-aggregate-put
+slice-aggregate-put c = search needs
+
+put-requires : tie.Need-put-requires
+put-requires c κs = search needs
+
+add-result : tie.Need-add-result
+add-result c = search needs
+
+same-length : tie.Need-same-length
+same-length c = search needs
+
+returns : tie.Need-returns
+returns c = let a = c .before .before .before .before .before .before .before .before .args in let l : length (c .before .before .before .before .before .message-mac .result) ≡ 8 = search needs in
+    rw (← c .before .before .before .before .before .message-mac .ensures) (seals (also (fronted (a .n) (a .room .now) (omega arith)) (c .before .before .before .before .before .message-mac .result) (a .n + 8) (omega arith) (omega arith) (c .before .before .put .ensures)))
+
+pub sign-spec : {M : Type 1} → statement M
+sign-spec =
+    tie.close
+    (tie.spec
+    slice-reshare-prefix-message-mac
+    slice-aggregate-message-mac
+    message-mac-requires
+    slice-aggregate-put
+    put-requires
+    add-result
+    same-length
+    returns)

@@ -1,0 +1,82 @@
+// The MAC of a message and the initial vectors (9.1.3, 9.1.4, 9.1.9).
+ghost use mathlib.Core.Path.{_≡_};
+ghost use mathlib.Core.List.{_∷_, _++_};
+ghost use Prim.Native.Nat.{_≤_};
+ghost use lib.ListN.{length, replicate};
+ghost use Rattle.base.specs.Bytes.{low};
+ghost use Rattle.aes.specs.Block.{cipher};
+ghost use Rattle.aes.specs.Keys.{keyExpansion};
+ghost use Rattle.messaging.specs.Protect.{mac, messageMac, commandIv, replyIv};
+use crate::Session;
+
+// The eight bytes over a first byte, CmdCtr, TI and a body.
+fn mac_over(key: [u8; 16], first: u8, counter: u16, ti: [u8; 4], body: &[u8]) -> [u8; 8]
+    requires { ⌜ length (now body) ≤ 293 ⌝ }
+    ensures { λ r. ⌜ r ≡ mac key (first ∷ low 2 counter ++ ti ++ now (body .entry)) ⌝ }
+{
+    let mut b = [0u8; 300];
+    let low = (counter % 256) as u8;
+    let high = (counter / 256 % 256) as u8;
+    base::put(&[first, low, high], &mut b, 0);
+    base::put(&ti, &mut b, 3);
+    base::put(body, &mut b, 7);
+    let e = 7 + body.len();
+    let w = aes::expand(key);
+    aes::mac_of(&w, &b[..e])
+}
+
+// The MAC of a command or a reply: its first byte is the command's or the return code.
+pub fn message_mac(s: Session, first: u8, body: &[u8]) -> [u8; 8]
+    requires { ⌜ length (now body) ≤ 293 ⌝ }
+    ensures { λ r. ⌜ r ≡ messageMac s first (now (body .entry)) ⌝ }
+{
+    let key = s.mac;
+    let ti = s.ti;
+    mac_over(key, first, s.counter, ti, body)
+}
+
+// A vector, for a label.
+fn vector(l: u8, m: u8, key: [u8; 16], ti: [u8; 4], counter: u16) -> [u8; 16]
+    ensures { λ r. ⌜ r ≡ cipher (keyExpansion key) (l ∷ m ∷ ti ++ low 2 counter ++ replicate 8 0) ⌝ }
+{
+    let low = (counter % 256) as u8;
+    let high = (counter / 256 % 256) as u8;
+    let b = [
+        l,
+        m,
+        ti[0],
+        ti[1],
+        ti[2],
+        ti[3],
+        low,
+        high,
+        0,
+        0,
+        0,
+        0,
+        0,
+        0,
+        0,
+        0,
+    ];
+    let w = aes::expand(key);
+    aes::encrypt(&w, b)
+}
+
+// The vector of a command's data.
+pub fn command_iv(s: Session) -> [u8; 16]
+    ensures { λ r. ⌜ r ≡ commandIv s ⌝ }
+{
+    let key = s.enc;
+    let ti = s.ti;
+    vector(0xA5, 0x5A, key, ti, s.counter)
+}
+
+// The vector of a reply's data.
+pub fn reply_iv(s: Session) -> [u8; 16]
+    ensures { λ r. ⌜ r ≡ replyIv s ⌝ }
+{
+    let key = s.enc;
+    let ti = s.ti;
+    vector(0x5A, 0xA5, key, ti, s.counter)
+}

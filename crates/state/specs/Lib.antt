@@ -1,0 +1,4 @@
+pub mod State
+pub mod Fresh
+pub mod Sound
+pub mod Access

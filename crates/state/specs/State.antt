@@ -1,0 +1,69 @@
+-- The state of a tag and its parts (8.2, 9.1, 9.3).
+use mathlib.Core.Bool.{Bool, true, false}
+use mathlib.Core.List.{List, []}
+use Prim.Native.Nat.{ℕ, _*_}
+use lib.Dec.{eqb, leb}
+use lib.ListN.{take, drop, replicate}
+use Rattle.base.specs.Decide.{pick}
+use Rattle.base.specs.Bytes.{byteAt}
+use Rattle.settings.specs.declared.Reading.{Reading}
+use Rattle.settings.specs.Fields.{readOf}
+use Rattle.settings.specs.Spans.{readingOf}
+use Rattle.state.specs.declared.Files.{Files}
+use Rattle.state.specs.declared.Live.{Live}
+use Rattle.state.specs.declared.Pending.{Pending}
+use Rattle.state.specs.declared.Tapping.{Tapping}
+use Rattle.state.specs.declared.Tag.{Tag}
+
+-- one of three answers for files 1 to 3, and one for any other number
+abbrev pub byFile : ℕ → ℕ → ℕ → ℕ → ℕ → ℕ
+byFile n a b c other = pick (eqb n 1) a (pick (eqb n 2) b (pick (eqb n 3) c other))
+
+-- Table 4: file 1 has 32 bytes, file 2 256, file 3 128; they stand one behind the other
+unfoldable pub startOf : ℕ → ℕ
+startOf n = byFile n 0 32 288 416
+
+unfoldable pub sizeOf : ℕ → ℕ
+sizeOf n = byFile n 32 256 128 0
+
+-- the bytes of file n
+unfoldable pub fileOf : Files → ℕ → List ℕ
+fileOf f n = take (sizeOf n) (drop (startOf n) (f .bytes))
+
+-- the settings string of file n: as many bytes of its 27 as its length says
+unfoldable pub slotOf : ℕ → ℕ
+slotOf n = byFile n 0 1 2 3
+
+unfoldable pub rulesOf : Files → ℕ → List ℕ
+rulesOf f n = take (byteAt (f .lens) (slotOf n)) (take 27 (drop (slotOf n * 27) (f .rules)))
+
+unfoldable pub readingIn : Files → ℕ → Reading
+readingIn f n = readingOf (readOf (rulesOf f n))
+
+-- key k; zeros for a number over 4
+unfoldable pub keyIn : List ℕ → ℕ → List ℕ
+keyIn keys k = pick (leb k 4) (take 16 (drop (k * 16) keys)) (replicate 16 0)
+
+-- what has ended leaves zeros
+unfoldable pub noLive : Live
+noLive = record { on = false; key = 0; enc = replicate 16 0; mac = replicate 16 0; ti = replicate 4 0; counter = 0 }
+
+unfoldable pub noPending : Pending
+noPending = record { on = false; first = false; key = 0; «rnd_b» = replicate 16 0; cap = replicate 6 0; ti = replicate 4 0; counter = 0 }
+
+-- no tap; the tap counter stays
+unfoldable pub quieted : Tapping → Tapping
+quieted t = record { on = false; iso = false; counter = t .counter }
+
+-- session, pending part two and tap have ended; files, settings, keys, versions, selection and tap counter stay
+unfoldable pub endedOf : Tag → Tag
+endedOf t =
+    record {
+      uid = t .uid;
+      files = t .files;
+      secrets = t .secrets;
+      live = noLive;
+      pending = noPending;
+      place = t .place;
+      tap = quieted (t .tap);
+    }

@@ -1,0 +1,134 @@
+// Soundness: 01's refusal 3, clause by clause.
+ghost use mathlib.Core.Path.{_≡_};
+ghost use lib.Dec.{leb};
+ghost use lib.ListN.{length};
+ghost use Rattle.base.specs.Decide.{and};
+ghost use Rattle.base.specs.Bytes.{same};
+ghost use Rattle.settings.specs.Answers.{judged};
+ghost use Rattle.settings.specs.Normal.{normal};
+ghost use Rattle.state.specs.Sound.{good, rulesSound, keysSound, aloneSound, levelSound, soundTag};
+use crate::Files;
+use crate::Tag;
+use crate::parts::reading_of;
+use crate::parts::slot_of;
+use crate::parts::string_len;
+use settings::Normalised;
+
+// Whether a string of at most 27 bytes keeps the rules for a file and is its own normal form.
+fn is_normal(n: u8, s: &[u8]) -> bool
+    ensures { λ r. ⌜ r ≡ and (leb (length (now (s .entry))) 27) (and (good (judged n (now (s .entry)))) (same (now (s .entry)) (normal (now (s .entry))))) ⌝ }
+{
+    let mut room = [0u8; 27];
+    let a = settings::normalise(n, s, &mut room);
+    match a {
+        Normalised::Normal(k) => base::alike(s, &room[..k]),
+        Normalised::BadString(_) => false,
+        Normalised::RoomTooSmall => false,
+    }
+}
+
+// The settings of a file keep the rules and are normal.
+fn rules_sound(f: Files, n: u8) -> bool
+    ensures { λ r. ⌜ r ≡ rulesSound f n ⌝ }
+{
+    let rules = f.rules;
+    let lens = f.lens;
+    let i = slot_of(n);
+    let at = i * 27;
+    let len = string_len(lens, i);
+    is_normal(n, &rules[at..at + len])
+}
+
+// Key numbers over 4; session and pending part both.
+fn keys_sound(live: bool, key: u8, pending: bool, other: u8) -> bool
+    ensures { λ r. ⌜ r ≡ keysSound live key pending other ⌝ }
+{
+    if live {
+        if pending {
+            return false;
+        }
+        return key <= 4;
+    }
+    if pending {
+        return other <= 4;
+    }
+    true
+}
+
+// A tap with a session or a pending part, or with file 2's SDM off.
+fn alone_sound(tap: bool, live: bool, pending: bool, sdm: bool) -> bool
+    ensures { λ r. ⌜ r ≡ aloneSound tap live pending sdm ⌝ }
+{
+    if tap {
+        if live {
+            return false;
+        }
+        if pending {
+            return false;
+        }
+        return sdm;
+    }
+    true
+}
+
+// Session, pending part, tap or selected file at PICC level; a selected file not 1 to 3.
+fn level_sound(application: bool, live: bool, pending: bool, tap: bool, file: u8) -> bool
+    ensures { λ r. ⌜ r ≡ levelSound application live pending tap file ⌝ }
+{
+    if application {
+        return file <= 3;
+    }
+    if live {
+        return false;
+    }
+    if pending {
+        return false;
+    }
+    if tap {
+        return false;
+    }
+    file == 0
+}
+
+// Both, without a branch, so that the clauses are one expression.
+fn both(a: bool, b: bool) -> bool
+    ensures { λ r. ⌜ r ≡ and a b ⌝ }
+{
+    if a { b } else { false }
+}
+
+// Whether a state is sound.
+pub fn sound(t: Tag) -> bool
+    ensures { λ r. ⌜ r ≡ soundTag t ⌝ }
+{
+    let uid = t.uid;
+    let sdm = reading_of(t.files, 2).settings.head.sdm;
+    both(
+        rules_sound(t.files, 1),
+        both(
+            rules_sound(t.files, 2),
+            both(
+                rules_sound(t.files, 3),
+                both(
+                    t.tap.counter <= 16777215,
+                    both(
+                        uid[0] == 4,
+                        both(
+                            keys_sound(t.live.on, t.live.key, t.pending.on, t.pending.key),
+                            both(
+                                alone_sound(t.tap.on, t.live.on, t.pending.on, sdm),
+                                level_sound(
+                                    t.place.application,
+                                    t.live.on,
+                                    t.pending.on,
+                                    t.tap.on,
+                                    t.place.file,
+                                ),
+                            ),
+                        ),
+                    ),
+                ),
+            ),
+        ),
+    )
+}

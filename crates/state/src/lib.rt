@@ -1,0 +1,107 @@
+// The state of a tag, by value, without enums: every state can be written down, and `sound` judges it. With it the fresh
+// tag, what ends, and the access decision.
+
+mod delivery;
+mod granting;
+mod judging;
+mod parts;
+
+pub use delivery::fresh;
+pub use granting::access_for;
+pub use granting::read_grant;
+pub use granting::write_grant;
+pub use judging::sound;
+pub use parts::ended;
+pub use parts::file_size;
+pub use parts::file_start;
+pub use parts::key_of;
+pub use parts::no_live;
+pub use parts::no_pending;
+pub use parts::quiet;
+pub use parts::reading_of;
+
+// The files' bytes (file 1 from 0, file 2 from 32, file 3 from 288), their settings strings (27 bytes for each) and the
+// strings' lengths.
+pub struct Files {
+    pub bytes: [u8; 416],
+    pub rules: [u8; 81],
+    pub lens: [u8; 3],
+}
+
+// The five keys, 16 bytes each, and their versions.
+pub struct Secrets {
+    pub keys: [u8; 80],
+    pub versions: [u8; 5],
+}
+
+// A session. One that has ended holds zeros.
+pub struct Live {
+    pub on: bool,
+    pub key: u8,
+    pub enc: [u8; 16],
+    pub mac: [u8; 16],
+    pub ti: [u8; 4],
+    pub counter: u16,
+}
+
+// A part two that is pending, of 71 (first) or of 77. One that has ended, and what does not apply, holds zeros.
+pub struct Pending {
+    pub on: bool,
+    pub first: bool,
+    pub key: u8,
+    pub rnd_b: [u8; 16],
+    pub cap: [u8; 6],
+    pub ti: [u8; 4],
+    pub counter: u16,
+}
+
+// Whether the application is selected, and the selected file, 0 for none.
+pub struct Place {
+    pub application: bool,
+    pub file: u8,
+}
+
+// Whether a tap runs, whether by ISOReadBinary, and the tap counter.
+pub struct Tapping {
+    pub on: bool,
+    pub iso: bool,
+    pub counter: u32,
+}
+
+pub struct Tag {
+    pub uid: [u8; 7],
+    pub files: Files,
+    pub secrets: Secrets,
+    pub live: Live,
+    pub pending: Pending,
+    pub place: Place,
+    pub tap: Tapping,
+}
+
+// Refusal 4, or none.
+pub enum Made {
+    Fresh,
+    WrongUid,
+}
+
+// A fresh tag, or refusal 4 with zeros beside it.
+pub struct Birth {
+    pub made: Made,
+    pub tag: Tag,
+}
+
+// How a command is granted (8.2.3), or not: every condition concerned is F, or not.
+pub enum Grant {
+    ByKey,
+    ByTap,
+    Free,
+    Never,
+    Denied,
+}
+
+// What access gives: the mode, or 919D or 91AE.
+pub enum Access {
+    In(messaging::Mode),
+    Never,
+    Denied,
+}
