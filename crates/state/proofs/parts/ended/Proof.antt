@@ -14,7 +14,7 @@ quiet-requires c κs = search needs
 
 returns : tie.Need-returns
 unfolding endedOf
-returns c = cc
+returns c = simp (c .before .before .no-live .ensures, c .before .no-pending .ensures, c .quiet .ensures)
 
 pub ended-spec : {M : Type 1} → statement M
 ended-spec = tie.close (tie.spec no-live-requires no-pending-requires quiet-requires returns)
