@@ -22,12 +22,13 @@ use Rattle.aes.proofs.Macs.{mac-length}
 use Rattle.messaging.specs.Padding.{padded, paddedLength, blocks, unpad}
 use Rattle.messaging.specs.Protect.{mac, messageMac, commandIv, replyIv, macLength, sent, signed, plain, textOf, content, macRight}
 use Rattle.messaging.specs.Command.{wrapped, partRight, lengthRight, checked, opening, answers, leaves, Opens}
-use Rattle.messaging.specs.Reply.{filled, closed, replyRight, replyOpening}
+use Rattle.messaging.specs.Reply.{filled, closed, closedLength, replyRight, replyOpening}
 use Rattle.messaging.specs.declared.Session.{Session}
 use Rattle.messaging.specs.declared.Mode.{Mode}
 use Rattle.messaging.specs.declared.Mode.the-variants.{Plain, Mac, Full}
 use Rattle.messaging.specs.declared.Opened.{Opened}
 use Rattle.messaging.specs.declared.Opened.the-variants.{Data}
+use Rattle.messaging.proofs.Closing.{hidden-some, hidden-none}
 use Rattle.messaging.proofs.Opening.{opening-right}
 use Rattle.messaging.proofs.Unpadding.{padded-length, unpad-padded}
 
@@ -107,6 +108,15 @@ module _ (s : Session) (k : IsBlock (s .enc)) (v : List ℕ) (b : IsBlock v) (d 
       ⊎-elim
       (λ g. let n = length d / 16 * 16 + 16 in rw (le-leb 1 (length d) g, hidden-length, le-leb 8 (n + 8) (omega arith), eq-eqb ((n + 8 - 8) % 16) 0 (omega arith)) refl)
       (λ g. rw (lt-leb 1 (length d) g) refl) (le-or-lt 1 (length d))
+
+  -- with its MAC it is as long as the mode says
+  sent-length : (m : Mode) → length (sent m s v (filled (length d)) d) + macLength m ≡ closedLength m (length d)
+  unfolding sent closedLength
+  sent-length Plain = omega arith
+  sent-length Mac = refl
+  sent-length Full =
+      ⊎-elim (λ g. rw (le-leb 1 (length d) g, hidden-length, hidden-some (length d) g) refl)
+      (λ g. rw (lt-leb 1 (length d) g, hidden-none (length d) (omega arith)) refl) (le-or-lt 1 (length d))
 
 -- ---- the MAC behind a body
 tag-length : (s : Session) (first : ℕ) (body : List ℕ) → length (messageMac s first body) ≡ 8
@@ -190,3 +200,11 @@ closed-opens s m code d k h =
     let b = reply-iv-block s k in
     rw (signed-right s code p m, signed-front s code p m, sym (body-length s code p m))
     (rw (signed-length s code p m, reply-sent s k (replyIv s) b d h m) (filled-sent s k (replyIv s) b d h m))
+
+-- a closed reply is as long as its mode says
+pub closed-length : (s : Session) (m : Mode) (code : ℕ) (d : List ℕ) → length (s .enc) ≡ 16 → AllBytes (s .enc) → AllBytes d
+    → length (closed s m code d) ≡ closedLength m (length d)
+unfolding closed
+closed-length s m code d l b h =
+    let k : IsBlock (s .enc) = record { len = l; bytes = b } in
+    signed-length s code (sent m s (replyIv s) (filled (length d)) d) m ∙ sent-length s k (replyIv s) (reply-iv-block s k) d h m

@@ -1,0 +1,4 @@
+pub mod Accepting
+pub mod Counting
+pub mod Parts
+pub mod Showing

@@ -1,0 +1,12 @@
+-- `answer::session_of` meets its contract.
+use mathlib.Core.Path.{refl}
+use Rattle.answer.specs.Answer.{sessionOf}
+use Rattle.answer.proofs.session_of.Statement.{statement}
+use Rattle.answer.proofs.session_of.Tie as tie
+
+returns : tie.Need-returns
+unfolding sessionOf
+returns c = refl
+
+pub session-of-spec : {M : Type 1} → statement M
+session-of-spec = tie.close (tie.spec returns)

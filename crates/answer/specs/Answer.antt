@@ -1,0 +1,68 @@
+-- What a command is answered: status, data, and the next state.
+use mathlib.Core.List.{List, []}
+use mathlib.Core.Path.{_≡_}
+use Prim.Native.Nat.{ℕ, _+_, _≤_}
+use lib.Dec.{ltb}
+use lib.ListN.{length, take}
+use Rattle.base.specs.Decide.{pick}
+use Rattle.messaging.specs.declared.Mode.{Mode}
+use Rattle.messaging.specs.declared.Session.{Session}
+use Rattle.messaging.specs.Reply.{closed, overlong}
+use Rattle.state.specs.declared.Live.{Live}
+use Rattle.state.specs.declared.Tag.{Tag}
+use Rattle.state.specs.State.{quieted, endedOf}
+use Rattle.answer.specs.declared.Done.{Done}
+
+pub record Answer : Type 0 where
+  pub status : ℕ
+  pub text : List ℕ
+  pub tag : Tag
+
+abbrev pub given : Tag → ℕ → List ℕ → Answer
+given t s d = record { status = s; text = d; tag = t }
+
+-- A refusal by status has no data, and ends session, pending part two and tap
+unfoldable pub refusal : Tag → ℕ → Answer
+refusal t s = given (endedOf t) s []
+
+-- CmdCtr rises by one in session (01, step 7, sees to it that it can)
+unfoldable pub raised : Live → Live
+raised l =
+    record {
+      on = l .on;
+      key = l .key;
+      enc = l .enc;
+      mac = l .mac;
+      ti = l .ti;
+      counter = pick (l .on) (pick (ltb (l .counter) 65535) (l .counter + 1) (l .counter)) (l .counter);
+    }
+
+unfoldable pub sessionOf : Live → Session
+sessionOf l = record { enc = l .enc; mac = l .mac; ti = l .ti; counter = l .counter }
+
+-- the tag after an accepted command that is no tap: CmdCtr has risen, and no tap runs
+unfoldable pub afterwards : Tag → Tag
+afterwards t =
+    record {
+      uid = t .uid;
+      files = t .files;
+      secrets = t .secrets;
+      live = raised (t .live);
+      pending = t .pending;
+      place = t .place;
+      tap = quieted (t .tap);
+    }
+
+-- An accepted command: its data closed in its mode under the raised CmdCtr; over 256 bytes with its MAC: 917E
+unfoldable pub accepted : Tag → Mode → List ℕ → Answer
+accepted t m d =
+    pick (overlong m (length d)) (refusal t 0x917E)
+    (given (afterwards t) 0x9100 (closed (sessionOf (raised (t .live))) m 0 d))
+
+-- what the code's answer says
+unfoldable pub answerOf : Done → Answer
+answerOf d = given (d .tag) (d .status) (take (d .length) (d .bytes))
+
+pub record Gives (a : Answer) (d : Done) : Type 0 where
+  pub says : answerOf d ≡ a
+  pub short : d .length ≤ 256

@@ -1,0 +1,42 @@
+use Rattle.auth.specs.Parts.{enteredFirst}
+use borrow.Author.Needs.{needs}
+use Rattle.auth.proofs.enter_first.Statement.{statement}
+use Rattle.auth.proofs.enter_first.Tie as tie
+
+ti-of-requires : tie.Need-ti-of-requires
+ti-of-requires c κs = search needs
+
+first-reply-requires : tie.Need-first-reply-requires
+first-reply-requires c κs = search needs
+
+session-requires : tie.Need-session-requires
+session-requires c κs = search needs
+
+no-pending-requires : tie.Need-no-pending-requires
+no-pending-requires c κs = search needs
+
+talk-requires : tie.Need-talk-requires
+talk-requires c κs = search needs
+
+slice-aggregate-reply : tie.Need-slice-aggregate-reply
+slice-aggregate-reply c = search needs
+
+reply-requires : tie.Need-reply-requires
+reply-requires c κs = search needs
+
+returns : tie.Need-returns
+unfolding enteredFirst
+returns c = rw (← c .before .before .before .before .before .before .ti-of .ensures, ← c .before .before .before .before .session .ensures, ← c .before .before .before .before .before .first-reply .ensures, ← c .before .before .before .no-pending .ensures, ← c .before .before .talk .ensures) (c .reply .ensures)
+
+pub enter-first-spec : {M : Type 1} → statement M
+enter-first-spec =
+    tie.close
+    (tie.spec
+    ti-of-requires
+    first-reply-requires
+    session-requires
+    no-pending-requires
+    talk-requires
+    slice-aggregate-reply
+    reply-requires
+    returns)

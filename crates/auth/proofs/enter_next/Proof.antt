@@ -1,0 +1,38 @@
+use Rattle.auth.specs.Parts.{enteredNext}
+use borrow.Author.Needs.{needs}
+use Rattle.auth.proofs.enter_next.Statement.{statement}
+use Rattle.auth.proofs.enter_next.Tie as tie
+
+next-reply-requires : tie.Need-next-reply-requires
+next-reply-requires c κs = search needs
+
+session-requires : tie.Need-session-requires
+session-requires c κs = search needs
+
+no-pending-requires : tie.Need-no-pending-requires
+no-pending-requires c κs = search needs
+
+talk-requires : tie.Need-talk-requires
+talk-requires c κs = search needs
+
+slice-aggregate-reply : tie.Need-slice-aggregate-reply
+slice-aggregate-reply c = search needs
+
+reply-requires : tie.Need-reply-requires
+reply-requires c κs = search needs
+
+returns : tie.Need-returns
+unfolding enteredNext
+returns c = rw (← c .before .before .before .before .session .ensures, ← c .before .before .before .before .before .next-reply .ensures, ← c .before .before .before .no-pending .ensures, ← c .before .before .talk .ensures) (c .reply .ensures)
+
+pub enter-next-spec : {M : Type 1} → statement M
+enter-next-spec =
+    tie.close
+    (tie.spec
+    next-reply-requires
+    session-requires
+    no-pending-requires
+    talk-requires
+    slice-aggregate-reply
+    reply-requires
+    returns)

@@ -1,0 +1,26 @@
+use Rattle.auth.specs.Parts.{enteredFirst, enteredNext, entered}
+use Rattle.auth.proofs.Replies.{gives-as, picked, passed-over}
+use borrow.Author.Needs.{needs}
+use Rattle.auth.proofs.enter_right.Statement.{statement}
+use Rattle.auth.proofs.enter_right.Tie as tie
+
+enter-first-requires : tie.Need-enter-first-requires
+enter-first-requires c κs = search needs
+
+returns : tie.Need-returns
+unfolding entered
+returns c =
+    let a = c .before .before .args in
+    gives-as (c .enter-first .ensures) (picked (a .tag .pending .first) (enteredFirst (a .tag) (a .kx) (a .a) (a .random)) (enteredNext (a .tag) (a .kx) (a .a)) (c .before .if1 .taken))
+
+enter-next-requires : tie.Need-enter-next-requires
+enter-next-requires c κs = search needs
+
+returns-2 : tie.Need-returns-2
+unfolding entered
+returns-2 c =
+    let a = c .before .before .args in
+    gives-as (c .enter-next .ensures) (passed-over (a .tag .pending .first) (enteredFirst (a .tag) (a .kx) (a .a) (a .random)) (enteredNext (a .tag) (a .kx) (a .a)) (c .before .if1 .left))
+
+pub enter-right-spec : {M : Type 1} → statement M
+enter-right-spec = tie.close (tie.spec enter-first-requires returns enter-next-requires returns-2)

@@ -1,0 +1,242 @@
+// Authentication (9.1.5, 9.1.6, 10.4): part one of 71 and of 77, and part two.
+ghost use mathlib.Core.Path.{_≡_};
+ghost use Prim.Native.Nat.{_≤_};
+ghost use lib.ListN.{length, take, drop};
+ghost use Rattle.answer.specs.Answer.{Gives, given};
+ghost use Rattle.auth.specs.Parts.{keyStatus, valuesStatus, firstStatus, nextStatus, talking, begun, capOf, partOneFirst, partOneNext, sessionFrom, enteredFirst, enteredNext, entered, partTwoAnswer};
+use answer::Done;
+use messaging::Proof;
+use state::Live;
+use state::Pending;
+use state::Tag;
+
+// 0, or the status of a key byte: over 63 919E, over 4 9140.
+pub fn key_status(k: u8) -> u16
+    ensures { λ r. ⌜ r ≡ keyStatus k ⌝ }
+{
+    if 63 < k {
+        return 0x919E;
+    }
+    if 4 < k {
+        return 0x9140;
+    }
+    0
+}
+
+// 0, or what refuses part one of 71 behind its lengths.
+fn first_values(x: &[u8], application: bool) -> u16
+    ensures { λ r. ⌜ r ≡ valuesStatus (now (x .entry)) application ⌝ }
+{
+    let k = key_status(base::at(x, 0));
+    if k != 0 {
+        return k;
+    }
+    if base::at(x, 2) / 2 % 2 == 1 {
+        return 0x919D;
+    }
+    if application {
+        return 0;
+    }
+    0x9140
+}
+
+// 0, or what refuses part one of 71.
+fn first_status(x: &[u8], application: bool) -> u16
+    ensures { λ r. ⌜ r ≡ firstStatus (now (x .entry)) application ⌝ }
+{
+    let n = x.len();
+    if n < 2 {
+        return 0x917E;
+    }
+    let cap = base::at(x, 1);
+    if 6 < cap {
+        return 0x919E;
+    }
+    if n == 2 + cap as usize {
+        return first_values(x, application);
+    }
+    0x917E
+}
+
+// 0, or what refuses part one of 77.
+fn next_status(x: &[u8], live: bool) -> u16
+    ensures { λ r. ⌜ r ≡ nextStatus (now (x .entry)) live ⌝ }
+{
+    if x.len() == 1 {
+        if live {
+            return key_status(base::at(x, 0));
+        }
+        return 0x919D;
+    }
+    0x917E
+}
+
+// PCDcap2 of a part one of 71, at most six bytes, padded with zeros to six.
+fn cap_of(x: &[u8]) -> [u8; 6]
+    requires { ⌜ (2 ≤ length (now x)) × (length (now x) ≤ 8) ⌝ }
+    ensures { λ r. ⌜ r ≡ capOf (now (x .entry)) ⌝ }
+{
+    let mut c = [0u8; 6];
+    base::put(&x[2..], &mut c, 0);
+    c
+}
+
+// RndB: bytes 0 to 15 of the random ones.
+fn rnd_b(random: [u8; 20]) -> [u8; 16]
+    ensures { λ r. ⌜ r ≡ take 16 random ⌝ }
+{
+    let mut r = [0u8; 16];
+    base::put(&random[..16], &mut r, 0);
+    r
+}
+
+// TI: bytes 16 to 19.
+fn ti_of(random: [u8; 20]) -> [u8; 4]
+    ensures { λ r. ⌜ r ≡ drop 16 random ⌝ }
+{
+    let mut r = [0u8; 4];
+    base::put(&random[16..20], &mut r, 0);
+    r
+}
+
+// The tag with another session and pending part, and no tap.
+fn talk(tag: Tag, l: Live, p: Pending) -> Tag
+    ensures { λ r. ⌜ r ≡ talking tag l p ⌝ }
+{
+    let mut t = tag;
+    let q = state::quiet(t.tap);
+    t.live = l;
+    t.pending = p;
+    t.tap = q;
+    t
+}
+
+// A status with bytes as they are.
+fn reply(tag: Tag, status: u16, e: &[u8]) -> Done
+    requires { ⌜ length (now e) ≤ 256 ⌝ }
+    ensures { λ r. ⌜ Gives (given tag status (now (e .entry))) r ⌝ }
+{
+    let mut bytes = [0u8; 258];
+    base::put(e, &mut bytes, 0);
+    answer::give(tag, status, bytes, e.len())
+}
+
+// Part one accepted: E(Kx; RndB), 91AF; the old session ends.
+fn begin(tag: Tag, p: Pending) -> Done
+    ensures { λ r. ⌜ Gives (begun tag p) r ⌝ }
+{
+    let keys = tag.secrets.keys;
+    let b = p.rnd_b;
+    let e = messaging::part_one(state::key_of(keys, p.key), b);
+    reply(talk(tag, state::no_live(), p), 0x91AF, &e)
+}
+
+// Part one of 71.
+pub fn first(tag: Tag, x: &[u8], random: [u8; 20]) -> Done
+    ensures { λ r. ⌜ Gives (partOneFirst tag (now (x .entry)) random) r ⌝ }
+{
+    let s = first_status(x, tag.place.application);
+    if s == 0 {
+        let p = Pending {
+            on: true,
+            first: true,
+            key: base::at(x, 0),
+            rnd_b: rnd_b(random),
+            cap: cap_of(x),
+            ti: [0; 4],
+            counter: 0,
+        };
+        return begin(tag, p);
+    }
+    answer::refuse(tag, s)
+}
+
+// Part one of 77: TI and CmdCtr are kept.
+pub fn next(tag: Tag, x: &[u8], random: [u8; 20]) -> Done
+    ensures { λ r. ⌜ Gives (partOneNext tag (now (x .entry)) random) r ⌝ }
+{
+    let s = next_status(x, tag.live.on);
+    if s == 0 {
+        let ti = tag.live.ti;
+        let p = Pending {
+            on: true,
+            first: false,
+            key: base::at(x, 0),
+            rnd_b: rnd_b(random),
+            cap: [0; 6],
+            ti,
+            counter: tag.live.counter,
+        };
+        return begin(tag, p);
+    }
+    answer::refuse(tag, s)
+}
+
+// The session that part two opens.
+fn session(p: Pending, kx: [u8; 16], a: [u8; 16], ti: [u8; 4]) -> Live
+    ensures { λ r. ⌜ r ≡ sessionFrom p kx a ti ⌝ }
+{
+    let b = p.rnd_b;
+    let k = messaging::session_keys(kx, a, b);
+    let enc = k.enc;
+    let mac = k.mac;
+    Live {
+        on: true,
+        key: p.key,
+        enc,
+        mac,
+        ti,
+        counter: p.counter,
+    }
+}
+
+// Part two of 71 accepted: TI, RndA', PDcap2 and PCDcap2.
+fn enter_first(tag: Tag, kx: [u8; 16], a: [u8; 16], random: [u8; 20]) -> Done
+    ensures { λ r. ⌜ Gives (enteredFirst tag kx a random) r ⌝ }
+{
+    let p = tag.pending;
+    let cap = p.cap;
+    let ti = ti_of(random);
+    let e = messaging::first_reply(kx, ti, a, cap);
+    let l = session(p, kx, a, ti);
+    reply(talk(tag, l, state::no_pending()), 0x9100, &e)
+}
+
+// Part two of 77 accepted: RndA'.
+fn enter_next(tag: Tag, kx: [u8; 16], a: [u8; 16]) -> Done
+    ensures { λ r. ⌜ Gives (enteredNext tag kx a) r ⌝ }
+{
+    let p = tag.pending;
+    let ti = p.ti;
+    let e = messaging::next_reply(kx, a);
+    let l = session(p, kx, a, ti);
+    reply(talk(tag, l, state::no_pending()), 0x9100, &e)
+}
+
+// Part two with the right RndB'.
+fn enter_right(tag: Tag, kx: [u8; 16], a: [u8; 16], random: [u8; 20]) -> Done
+    ensures { λ r. ⌜ Gives (entered tag kx a random) r ⌝ }
+{
+    if tag.pending.first {
+        return enter_first(tag, kx, a, random);
+    }
+    enter_next(tag, kx, a)
+}
+
+// Part two.
+pub fn second(tag: Tag, x: &[u8], random: [u8; 20]) -> Done
+    ensures { λ r. ⌜ Gives (partTwoAnswer tag (now (x .entry)) random) r ⌝ }
+{
+    let p = tag.pending;
+    let keys = tag.secrets.keys;
+    let kx = state::key_of(keys, p.key);
+    let b = p.rnd_b;
+    let r = messaging::check_part_two(kx, b, x);
+    let a = r.a;
+    let proof = r.proof;
+    match proof {
+        Proof::NotThirtyTwo => answer::refuse(tag, 0x917E),
+        Proof::WrongRndB => answer::refuse(tag, 0x91AE),
+        Proof::Right => enter_right(tag, kx, a, random),
+    }
+}

@@ -1,0 +1,68 @@
+-- 01, "Files": ISOReadBinary and ISOUpdateBinary (10.9.2, 10.9.3), behind the checks that all CLA 00 commands share.
+use mathlib.Core.Bool.{Bool, true, false, not}
+use mathlib.Core.List.{List, []}
+use Prim.Native.Nat.{ℕ, _+_, _-_, _%_}
+use lib.Dec.{eqb, leb, ltb}
+use lib.ListN.{length}
+use Rattle.base.specs.Decide.{pick, and}
+use Rattle.settings.specs.declared.Reading.{Reading}
+use Rattle.messaging.specs.declared.Mode.{Mode}
+use Rattle.messaging.specs.declared.Mode.the-variants.{Plain, Mac, Full}
+use Rattle.state.specs.declared.Live.{Live}
+use Rattle.state.specs.declared.Tag.{Tag}
+use Rattle.state.specs.declared.Access.{Access}
+use Rattle.state.specs.declared.Access.the-variants.{In, Never, Denied}
+use Rattle.state.specs.State.{sizeOf, readingIn}
+use Rattle.state.specs.Access.{accessFor}
+use Rattle.answer.specs.Answer.{Answer, given, refusal, afterwards}
+use Rattle.answer.specs.Taps.{shown}
+use Rattle.answer.specs.Filing.{storedIso, tapRead, withBytes, filed}
+
+-- a mode other than Plain in session is refused
+abbrev pub isPlain : Mode → Bool
+isPlain Plain = true
+isPlain Mac = false
+isPlain Full = false
+
+abbrev pub plainly : Access → Bool
+plainly (In m) = isPlain m
+plainly Never = false
+plainly Denied = false
+
+-- access 6982, also CmdCtr full
+unfoldable pub mayPass : Live → Access → Bool
+mayPass l a = and (not (and (l .on) (eqb (l .counter) 65535))) (plainly a)
+
+-- the selected file, read as by ReadData (AD) or written as by WriteData (8D)
+unfoldable pub mayUse : Tag → ℕ → Bool
+mayUse t ins = mayPass (t .live) (accessFor ins (t .live) (readingIn (t .files) (t .place .file) .settings .head))
+
+-- a tap that can't start is 6982; a span outside the file 6A86
+unfoldable pub tapStatus : ℕ → ℕ
+tapStatus s = pick (eqb s 0x919E) 0x6A86 0x6982
+
+-- what is read of file n, of which r are the settings: a tap where SDM is on and there is no session, else the stored bytes
+unfoldable pub readPart : Tag → Reading → ℕ → ℕ → ℕ → List ℕ → Answer
+readPart t r n at count random =
+    pick (and (r .settings .head .sdm) (not (t .live .on)))
+    (tapRead t (shown t r true random) 0x9000 (tapStatus (shown t r true random .status)) at count)
+    (storedIso t n at count)
+
+-- Le 00 gives all; Le over what is there: 6C and that number
+unfoldable pub readRange : Tag → ℕ → ℕ → ℕ → List ℕ → Answer
+readRange t n at le random =
+    let left = sizeOf n - at in
+    pick (leb (sizeOf n) at) (refusal t 0x6A86)
+    (pick (ltb left le) (refusal t (0x6C00 + left % 256)) (readPart t (readingIn (t .files) n) n at (pick (eqb le 0) left le) random))
+
+unfoldable pub readBinary : Tag → ℕ → ℕ → List ℕ → Answer
+readBinary t at le random = pick (mayUse t 0xAD) (readRange t (t .place .file) at le random) (refusal t 0x6982)
+
+-- offset at or past the end 6A86; past the end 6A87
+unfoldable pub updateRange : Tag → ℕ → ℕ → List ℕ → Answer
+updateRange t n at d =
+    pick (leb (sizeOf n) at) (refusal t 0x6A86)
+    (pick (ltb (sizeOf n - at) (length d)) (refusal t 0x6A87) (given (afterwards (filed t (withBytes (t .files) n at d))) 0x9000 []))
+
+unfoldable pub updatedBinary : Tag → ℕ → List ℕ → Answer
+updatedBinary t at d = pick (mayUse t 0x8D) (updateRange t (t .place .file) at d) (refusal t 0x6982)

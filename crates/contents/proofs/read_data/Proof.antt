@@ -1,0 +1,53 @@
+-- `contents::read_data` meets its contract.
+use borrow.Author.Tests.{eq-eqb, ne-eqb}
+use borrow.Author.Needs.{needs}
+use Rattle.contents.specs.Contents.{readData}
+use Rattle.contents.proofs.read_data.Statement.{statement}
+use Rattle.contents.proofs.read_data.Tie as tie
+
+three-at-requires : tie.Need-three-at-requires
+three-at-requires c κs = search needs
+
+three-at-requires-2 : tie.Need-three-at-requires-2
+three-at-requires-2 c κs = search needs
+
+file-size-requires : tie.Need-file-size-requires
+file-size-requires c κs = search needs
+
+range-status-requires : tie.Need-range-status-requires
+range-status-requires c κs = search needs
+
+reading-of-requires : tie.Need-reading-of-requires
+reading-of-requires c κs = search needs
+
+asked-for-requires : tie.Need-asked-for-requires
+asked-for-requires c κs = search needs
+
+read-part-requires : tie.Need-read-part-requires
+read-part-requires c κs = search needs
+
+returns : tie.Need-returns
+unfolding readData
+returns c = rw (← c .before .before .before .before .before .before .before .three-at .ensures, ← c .before .before .before .before .before .before .three-at2 .ensures, ← c .before .before .before .before .before .file-size .ensures, ← c .before .before .before .before .range-status .ensures, eq-eqb (c .before .before .before .before .range-status .result) 0 (c .before .before .before .if1 .taken), ← c .before .asked-for .ensures, ← c .before .before .reading-of .ensures) (c .read-part .ensures)
+
+refuse-requires : tie.Need-refuse-requires
+refuse-requires c κs = search needs
+
+returns-2 : tie.Need-returns-2
+unfolding readData
+returns-2 c = rw (← c .before .before .before .before .before .three-at .ensures, ← c .before .before .before .before .three-at2 .ensures, ← c .before .before .before .file-size .ensures, ← c .before .before .range-status .ensures, ne-eqb (c .before .before .range-status .result) 0 (c .before .if1 .left)) (c .refuse .ensures)
+
+pub read-data-spec : {M : Type 1} → statement M
+read-data-spec =
+    tie.close
+    (tie.spec
+    three-at-requires
+    three-at-requires-2
+    file-size-requires
+    range-status-requires
+    reading-of-requires
+    asked-for-requires
+    read-part-requires
+    returns
+    refuse-requires
+    returns-2)

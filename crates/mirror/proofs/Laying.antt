@@ -1,0 +1,98 @@
+-- Laws of the mirrors as they are laid, for the functions that lay them.
+use mathlib.Core.Path.{_≡_, refl, sym, ap, ap₂, _∙_}
+use mathlib.Core.Bool.{Bool, true, false}
+use mathlib.Core.List.{List, [], _∷_, _++_}
+use Prim.Native.Nat.{ℕ, zero, suc, _+_, _-_, _*_, _/_, _≤_, _<_}
+use native.Mathlib.Omega.{arith}
+use lib.ListN.{length, take, drop, length-drop}
+use lib.Seq.{take-at, drop-at, take-add, take-take, length-take-le}
+use borrow.Author.Tests.{le-leb}
+use Rattle.base.specs.Decide.{pick, or}
+use Rattle.base.specs.Bytes.{laid, over}
+use Rattle.base.proofs.Bytes.{laid-not}
+use Rattle.lines.specs.Hex.{charsOf, charsRoom}
+use Rattle.aes.specs.Cbc.{across, sealed, cbcOut}
+use Rattle.settings.specs.declared.Span.{Span}
+use Rattle.settings.specs.declared.Reading.{Reading}
+use Rattle.mirror.specs.declared.Mirror.{Mirror}
+use Rattle.mirror.specs.Mirrors.{mirrorAt, part, withEnc, withMac}
+
+-- ---- digits
+pub chars-length : (s : List ℕ) → length (charsOf s) ≡ length s * 2
+unfolding charsOf
+chars-length [] = refl
+chars-length (x ∷ s) = let e = chars-length s in omega arith
+
+-- the digits at the front of a room that they fit into
+chars-front : (s room : List ℕ) → length s * 2 ≤ length room → take (length s * 2) (charsRoom s room) ≡ charsOf s
+unfolding charsRoom
+chars-front s room h =
+    ap (λ t. take (length s * 2) (pick t (over (charsOf s) room) room)) (le-leb (length s * 2) (length room) h)
+    ∙ take-at (charsOf s) (drop (length (charsOf s)) room) (length s * 2) (chars-length s)
+
+-- ---- one mirror
+pub mirror-by : (s : Span) (bytes file : List ℕ) {t : Bool} → s .present ≡ t
+    → mirrorAt s bytes file ≡ pick t (laid (charsOf bytes) (s .start) file) file
+unfolding mirrorAt
+mirror-by s bytes file e = ap (λ t. pick t (laid (charsOf bytes) (s .start) file) file) e
+
+-- digits put over the file from a room
+pub mirror-put : (s : Span) (text room digits file f : List ℕ) → s .present ≡ true → length text * 2 ≤ length room
+    → digits ≡ charsRoom text room → f ≡ laid (take (length text * 2) digits) (s .start) file → f ≡ mirrorAt s text file
+mirror-put s text room digits file f p h d e =
+    e
+    ∙ ap (λ x. laid x (s .start) file) (ap (λ x. take (length text * 2) x) d ∙ chars-front text room h)
+    ∙ sym (mirror-by s text file p)
+
+-- more digits than the file has bytes
+pub mirror-long : (s : Span) (text file : List ℕ) → s .present ≡ true → length file < length text * 2 → mirrorAt s text file ≡ file
+mirror-long s text file p h =
+    mirror-by s text file p ∙ laid-not (charsOf text) (s .start) file (omega (arith, chars-length text))
+
+-- ---- ENC: of half a span only whole blocks count
+across-front : (f g : List ℕ → List ℕ → List ℕ) (n : ℕ) (v s : List ℕ) → n * 16 ≤ length s
+    → across f g n v (take (n * 16) s) ≡ across f g n v s
+unfolding across
+across-front f g zero v s h = refl
+across-front f g (suc n) v s h =
+    let e : suc n * 16 ≡ 16 + n * 16 = omega arith in
+    let p : take 16 (take (suc n * 16) s) ≡ take 16 s = take-take 16 (suc n * 16) s (omega arith) in
+    let q : drop 16 (take (suc n * 16) s) ≡ take (n * 16) (drop 16 s) =
+    ap (λ k. drop 16 (take k s)) e
+    ∙ ap (λ x. drop 16 x) (take-add 16 (n * 16) s)
+    ∙ drop-at (take 16 s) (take (n * 16) (drop 16 s)) 16 (length-take-le 16 s (omega arith)) in
+    ap₂ (λ x y. f v x ++ across f g n (g v x) y) p q
+    ∙ ap (λ x. f v (take 16 s) ++ x) (across-front f g n (g v (take 16 s)) (drop 16 s) (simp length-drop (omega arith)))
+
+cbc-front : (w : List (List ℕ)) (v s : List ℕ) → cbcOut w v (take (length s / 16 * 16) s) ≡ cbcOut w v s
+unfolding cbcOut
+cbc-front w v s =
+    let l : length (take (length s / 16 * 16) s) ≡ length s / 16 * 16 = length-take-le (length s / 16 * 16) s (omega arith) in
+    let k : length (take (length s / 16 * 16) s) / 16 ≡ length s / 16 = omega arith in
+    ap (λ n. across (sealed w) (sealed w) n v (take (length s / 16 * 16) s)) k
+    ∙ across-front (sealed w) (sealed w) (length s / 16) v s (omega arith)
+
+pub enc-blocks : (w : List (List ℕ)) (v : List ℕ) (a n : ℕ) (file : List ℕ) → a + n ≤ length file
+    → cbcOut w v (part a (a + n / 16 * 16) file) ≡ cbcOut w v (part a (a + n) file)
+enc-blocks w v a n file h =
+    let l : length (part a (a + n) file) ≡ a + n - a = length-take-le (a + n - a) (drop a file) (omega (arith, length-drop a file)) in
+    let e : a + n / 16 * 16 - a ≡ length (part a (a + n) file) / 16 * 16 = omega arith in
+    ap (λ k. cbcOut w v (take k (drop a file))) e
+    ∙ ap (λ x. cbcOut w v x) (sym (take-take (length (part a (a + n) file) / 16 * 16) (a + n - a) (drop a file) (omega arith)))
+    ∙ cbc-front w v (part a (a + n) file)
+
+-- ---- MAC: of a start behind the end nothing is covered
+pub no-part : (a e : ℕ) (file : List ℕ) → e ≤ a → part a e file ≡ []
+no-part a e file h = let z : e - a ≡ 0 = omega arith in ap (λ n. take n (drop a file)) z
+
+-- ---- where neither is present
+neither : (a b : Bool) → or a b ≡ false → (a ≡ false) × (b ≡ false)
+neither true b e = let z : _≡_ {A = ℕ} 0 1 = cc in absurd (omega arith)
+neither false b e = (refl, e)
+
+pub keyed-off : (r : Reading) (m : Mirror) (static file : List ℕ) → or (r .enc .present) (r .mac .present) ≡ false
+    → withMac r m (withEnc r m static file) ≡ file
+unfolding withMac withEnc
+keyed-off r m static file e =
+    let n = neither (r .enc .present) (r .mac .present) e in
+    mirror-by (r .mac) _ _ (n .1) ∙ mirror-by (r .enc) _ file (n .0)

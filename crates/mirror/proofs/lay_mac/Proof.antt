@@ -1,0 +1,37 @@
+use mathlib.Core.Path.{ap, sym, _∙_}
+use Rattle.mirror.specs.Mirrors.{mirrorAt}
+use Rattle.mirror.proofs.Laying.{mirror-by}
+use borrow.Author.Needs.{needs}
+use Rattle.mirror.proofs.lay_mac.Statement.{statement}
+use Rattle.mirror.proofs.lay_mac.Tie as tie
+
+cast-mac-between : tie.Need-cast-mac-between
+cast-mac-between c = search needs
+
+mac-between-requires : tie.Need-mac-between-requires
+mac-between-requires c κs = search needs
+
+slice-aggregate-lay-hex : tie.Need-slice-aggregate-lay-hex
+slice-aggregate-lay-hex c = search needs
+
+lay-hex-requires : tie.Need-lay-hex-requires
+lay-hex-requires c κs = search needs
+
+returns : tie.Need-returns
+returns c =
+    let a = c .before .before .before .before .before .args in
+    c .lay-hex .ensures ∙ ap (λ t. mirrorAt (a .s) t (a .file)) (c .before .before .mac-between .ensures)
+
+returns-2 : tie.Need-returns-2
+returns-2 c = let a = c .before .args in sym (mirror-by (a .s) _ (a .file) (c .if1 .left))
+
+pub lay-mac-spec : {M : Type 1} → statement M
+lay-mac-spec =
+    tie.close
+    (tie.spec
+    cast-mac-between
+    mac-between-requires
+    slice-aggregate-lay-hex
+    lay-hex-requires
+    returns
+    returns-2)

@@ -1,0 +1,61 @@
+use mathlib.Core.Path.{ap₂, sym, _∙_}
+use Rattle.mirror.specs.Mirrors.{mirrorAt, withUid, withCounter, withPicc}
+use Rattle.mirror.proofs.Laying.{mirror-by}
+use borrow.Author.Needs.{needs}
+use Rattle.mirror.proofs.lay_picc.Statement.{statement}
+use Rattle.mirror.proofs.lay_picc.Tie as tie
+
+slice-aggregate-lay-hex : tie.Need-slice-aggregate-lay-hex
+slice-aggregate-lay-hex c = search needs
+
+lay-hex-requires : tie.Need-lay-hex-requires
+lay-hex-requires c κs = search needs
+
+high-first-requires : tie.Need-high-first-requires
+high-first-requires c κs = search needs
+
+slice-aggregate-lay-hex-2 : tie.Need-slice-aggregate-lay-hex-2
+slice-aggregate-lay-hex-2 c = search needs
+
+lay-hex-requires-2 : tie.Need-lay-hex-requires-2
+lay-hex-requires-2 c κs = search needs
+
+picc-data-requires : tie.Need-picc-data-requires
+picc-data-requires c κs = search needs
+
+slice-aggregate-lay-hex-3 : tie.Need-slice-aggregate-lay-hex-3
+slice-aggregate-lay-hex-3 c = search needs
+
+lay-hex-requires-3 : tie.Need-lay-hex-requires-3
+lay-hex-requires-3 c κs = search needs
+
+returns : tie.Need-returns
+unfolding withUid withCounter withPicc
+returns c =
+    let a = c .before .before .before .before .before .before .before .before .before .before .before .before .args in
+    c .lay-hex3 .ensures
+    ∙ ap₂ (mirrorAt (a .r .picc)) (c .before .before .picc-data .ensures)
+    (c .before .before .before .before .before .before .lay-hex2 .ensures ∙ ap₂ (mirrorAt (a .r .counter)) (c .before .before .before .before .before .before .before .before .high-first .ensures) (c .before .before .before .before .before .before .before .before .before .lay-hex .ensures))
+
+returns-2 : tie.Need-returns-2
+unfolding withUid withCounter withPicc
+returns-2 c =
+    let a = c .before .before .before .before .before .before .before .args in
+    c .before .lay-hex2 .ensures
+    ∙ ap₂ (mirrorAt (a .r .counter)) (c .before .before .before .high-first .ensures) (c .before .before .before .before .lay-hex .ensures)
+    ∙ sym (mirror-by (a .r .picc) _ _ (c .if1 .left))
+
+pub lay-picc-spec : {M : Type 1} → statement M
+lay-picc-spec =
+    tie.close
+    (tie.spec
+    slice-aggregate-lay-hex
+    lay-hex-requires
+    high-first-requires
+    slice-aggregate-lay-hex-2
+    lay-hex-requires-2
+    picc-data-requires
+    slice-aggregate-lay-hex-3
+    lay-hex-requires-3
+    returns
+    returns-2)

@@ -1,0 +1,75 @@
+-- 01, "A tap" (9.3): mirrors are laid over the file, never stored, as capital hexadecimal.
+use mathlib.Core.Bool.{Bool, true, false}
+use mathlib.Core.List.{List, [], _∷_}
+use Prim.Native.Nat.{ℕ, _+_, _-_, _/_, _%_}
+use lib.ListN.{take, drop}
+use Rattle.base.specs.Decide.{pick, and}
+use Rattle.base.specs.Bytes.{laid}
+use Rattle.lines.specs.Hex.{charsOf}
+use Rattle.aes.specs.Cbc.{cbcOut}
+use Rattle.aes.specs.Keys.{keyExpansion}
+use Rattle.messaging.specs.Protect.{mac}
+use Rattle.messaging.specs.Tap.{piccData, tapKeys, tapIv}
+use Rattle.settings.specs.Spans.{inside}
+use Rattle.settings.specs.declared.Span.{Span}
+use Rattle.settings.specs.declared.Reading.{Reading}
+use Rattle.mirror.specs.declared.Laid.{Laid}
+use Rattle.mirror.specs.declared.Mirror.{Mirror}
+
+-- 9.3.3, EncodeASCII: bytes as capital hexadecimal over the file, where the mirror is present
+unfoldable pub mirrorAt : Span → List ℕ → List ℕ → List ℕ
+mirrorAt s bytes file = pick (s .present) (laid (charsOf bytes) (s .start) file) file
+
+-- the bytes of a file from one place to before another
+abbrev pub part : ℕ → ℕ → List ℕ → List ℕ
+part a e file = take (e - a) (drop a file)
+
+-- 9.3.1: as plain text SDMReadCtr stands high byte first
+unfoldable pub highFirst : ℕ → List ℕ
+highFirst c = c / 65536 % 256 ∷ c / 256 % 256 ∷ c % 256 ∷ []
+
+-- 9.3.3, plain: the UID, and SDMReadCtr
+unfoldable pub withUid : Reading → Mirror → List ℕ → List ℕ
+withUid r m file = mirrorAt (r .uid) (m .tap .uid) file
+
+unfoldable pub withCounter : Reading → Mirror → List ℕ → List ℕ
+withCounter r m file = mirrorAt (r .counter) (highFirst (m .tap .counter)) file
+
+-- 9.3.4: PICCData, under SDMMetaReadKey
+unfoldable pub withPicc : Reading → Mirror → List ℕ → List ℕ
+withPicc r m file = mirrorAt (r .picc) (piccData (m .«meta_key») (m .tap) (m .random)) file
+
+-- 9.3.6: SDMENCFileData: the first half of its span of StaticFileData, the file as stored; CBC, under SesSDMFileReadENCKey
+unfoldable pub encData : List ℕ → ℕ → Span → List ℕ → List ℕ
+encData key counter s static =
+    cbcOut (keyExpansion key) (tapIv key counter) (part (s .start) (s .start + s .size / 2) static)
+
+unfoldable pub withEnc : Reading → Mirror → List ℕ → List ℕ → List ℕ
+withEnc r m static file =
+    mirrorAt (r .enc) (encData (tapKeys (m .«file_key») (m .tap) .enc) (m .tap .counter) (r .enc) static) file
+
+-- 9.3.8: SDMMAC of DynamicFileData, the mirrored file, from SDMMACInputOffset to before the MAC; under SesSDMFileReadMACKey
+unfoldable pub withMac : Reading → Mirror → List ℕ → List ℕ
+withMac r m dynamic =
+    mirrorAt (r .mac) (mac (tapKeys (m .«file_key») (m .tap) .mac) (part (r .settings .places .input) (r .mac .start) dynamic)) dynamic
+
+-- the file as a tap shows it: every mirror, the MAC over all others
+unfoldable pub dynamicData : List ℕ → Reading → Mirror → List ℕ
+dynamicData static r m =
+    withMac r m (withEnc r m static (withPicc r m (withCounter r m (withUid r m static))))
+
+-- every span ends inside the file
+unfoldable pub allInside : Reading → Bool
+allInside r =
+    and (inside (r .uid))
+    (and (inside (r .counter))
+    (and (inside (r .picc))
+    (and (inside (r .enc))
+    (inside (r .mac)))))
+
+-- where one does not, no mirror is laid
+unfoldable pub laidOf : List ℕ → Reading → Mirror → Laid
+laidOf static r m =
+    pick (allInside r)
+    (record { inside = true; bytes = dynamicData static r m })
+    (record { inside = false; bytes = static })

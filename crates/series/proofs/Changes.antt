@@ -1,0 +1,138 @@
+-- A status other than 9000, 9100 and 91AF has no data and only ends what runs; files, settings, keys and versions change only with an
+-- accepting reply.
+use mathlib.Core.Path.{_≡_, refl, sym, _∙_, ap}
+use mathlib.Core.Bool.{Bool, true, false, not}
+use mathlib.Core.List.{List, []}
+use Prim.Native.Nat.{ℕ}
+use lib.Dec.{eqb}
+use lib.ListN.{length, drop}
+use Rattle.base.specs.Decide.{pick, or}
+use Rattle.messaging.specs.declared.Mode.{Mode}
+use Rattle.messaging.specs.declared.Mode.the-variants.{Plain, Mac, Full}
+use Rattle.messaging.specs.Reply.{overlong, closedLength, hiddenLength}
+use Rattle.settings.specs.declared.Verdict.the-variants.{Good}
+use Rattle.state.specs.declared.Tag.{Tag}
+use Rattle.state.specs.State.{readingIn, endedOf}
+use Rattle.answer.specs.declared.Shown.{Shown}
+use Rattle.answer.specs.Answer.{Answer, given, refusal, accepted, afterwards}
+use Rattle.answer.specs.Taps.{shown}
+use Rattle.answer.specs.Filing.{storedIso, tapped, tapRead}
+use Rattle.auth.specs.Parts.{talking, begun, enteredFirst, enteredNext, entered}
+use Rattle.selects.specs.Selects.{moved, selectedFile}
+use Rattle.tag.specs.Call.{answered}
+use Rattle.series.specs.Series.{accepting}
+use Rattle.series.proofs.Choices.{not-both, way}
+use Rattle.series.proofs.Walk.{Kinds, every-answer}
+
+-- an answer that only ends session, pending part two and tap
+pub record Ended (t : Tag) (a : Answer) : Type 0 where
+  pub state : a .tag ≡ endedOf t
+  pub empty : a .text ≡ []
+
+-- files and keys as they were
+pub record Same (t u : Tag) : Type 0 where
+  pub files : u .files ≡ t .files
+  pub secrets : u .secrets ≡ t .secrets
+
+-- 9000, 9100 and 91AF
+unfoldable pub passing : ℕ → Bool
+passing status = or (accepting status) (eqb status 0x91AF)
+
+abbrev EndedOr : Tag → Answer → Type 0
+EndedOr t a = passing (a .status) ≡ false → Ended t a
+
+abbrev SameOr : Tag → Answer → Type 0
+SameOr t a = accepting (a .status) ≡ false → Same t (a .tag)
+
+-- ---- statuses
+passes : (status : ℕ) → accepting status ≡ true → {A : Type 0} → passing status ≡ false → A
+unfolding passing
+passes status e {A} h = absurd (not-both (sym h ∙ ap (λ b. or b (eqb status 0x91AF)) e))
+
+accepts : (status : ℕ) → accepting status ≡ true → {A : Type 0} → accepting status ≡ false → A
+accepts status e {A} h = absurd (not-both (sym h ∙ e))
+
+yes-9000 : accepting 0x9000 ≡ true
+unfolding accepting
+yes-9000 = refl
+
+yes-9100 : accepting 0x9100 ≡ true
+unfolding accepting
+yes-9100 = refl
+
+yes-91AF : passing 0x91AF ≡ true
+unfolding passing accepting
+yes-91AF = refl
+
+-- an empty reply is short enough in every mode, so a change is accepted
+short-none : (m : Mode) → overlong m 0 ≡ false
+unfolding overlong closedLength hiddenLength
+short-none Plain = refl
+short-none Mac = refl
+short-none Full = refl
+
+pub accepted-none : (t : Tag) (m : Mode) → accepting (accepted t m [] .status) ≡ true
+unfolding accepted accepting
+accepted-none t m = rw (short-none m) refl
+
+-- ---- a status that does not pass
+ended-kinds : (t : Tag) (c random : List ℕ) → Kinds t c random (EndedOr t)
+unfolding refusal begun entered enteredFirst enteredNext accepted tapRead storedIso moved selectedFile
+ended-kinds t c random =
+    record {
+      refuses = λ s h. record { state = refl; empty = refl };
+      begins = λ p k a h. absurd (not-both (sym h ∙ yes-91AF));
+      enters =
+          λ p kx a. way (EndedOr t) (t .pending .first) (λ e. passes 0x9100 yes-9100) (λ e. passes 0x9100 yes-9100);
+      answers =
+          λ m d. way (EndedOr t) (overlong m (length d)) (λ e h. record { state = refl; empty = refl }) (λ e. passes 0x9100 yes-9100);
+      rekeys = λ s. passes (accepted _ Full [] .status) (accepted-none _ Full);
+      rekeys-first = λ s. passes 0x9100 yes-9100;
+      writes = λ n at p m. passes (accepted _ m [] .status) (accepted-none _ m);
+      writes-iso = λ n at p. passes 0x9000 yes-9000;
+      restrings = λ n p m s g. passes (accepted _ m [] .status) (accepted-none _ m);
+      taps =
+          λ n iso status refusing at count e s l p f.
+          way (EndedOr t) (eqb (shown t (readingIn (t .files) n) iso random .status) 0) (λ z. passes status e) (λ z h. record { state = refl; empty = refl });
+      reads-iso = λ n at count. passes 0x9000 yes-9000;
+      moves = λ application. passes 0x9000 yes-9000;
+      selects = λ n h. way (EndedOr t) (t .place .application) (λ e. passes 0x9000 yes-9000) (λ e h. record { state = refl; empty = refl });
+    }
+
+pub otherwise-ended : (t : Tag) (c random : List ℕ) → passing (answered t c random .status) ≡ false → Ended t (answered t c random)
+otherwise-ended t c random = every-answer t c random (EndedOr t) (ended-kinds t c random)
+
+-- ---- a status that does not accept
+same-ended : (t : Tag) → Same t (endedOf t)
+unfolding endedOf
+same-ended t = record { files = refl; secrets = refl }
+
+same-kinds : (t : Tag) (c random : List ℕ) → Kinds t c random (SameOr t)
+unfolding refusal endedOf begun entered enteredFirst enteredNext talking accepted afterwards tapRead tapped storedIso moved selectedFile
+same-kinds t c random =
+    record {
+      refuses = λ s h. record { files = refl; secrets = refl };
+      begins = λ p k a h. record { files = refl; secrets = refl };
+      enters =
+          λ p kx a.
+          way (SameOr t) (t .pending .first) (λ e h. record { files = refl; secrets = refl }) (λ e h. record { files = refl; secrets = refl });
+      answers =
+          λ m d.
+          way (SameOr t) (overlong m (length d)) (λ e h. record { files = refl; secrets = refl }) (λ e h. record { files = refl; secrets = refl });
+      rekeys = λ s. accepts (accepted _ Full [] .status) (accepted-none _ Full);
+      rekeys-first = λ s. accepts 0x9100 yes-9100;
+      writes = λ n at p m. accepts (accepted _ m [] .status) (accepted-none _ m);
+      writes-iso = λ n at p. accepts 0x9000 yes-9000;
+      restrings = λ n p m s g. accepts (accepted _ m [] .status) (accepted-none _ m);
+      taps =
+          λ n iso status refusing at count e s l p f.
+          way (SameOr t) (eqb (shown t (readingIn (t .files) n) iso random .status) 0) (λ z. accepts status e)
+          (λ z h. record { files = refl; secrets = refl });
+      reads-iso = λ n at count. accepts 0x9000 yes-9000;
+      moves = λ application. accepts 0x9000 yes-9000;
+      selects =
+          λ n h. way (SameOr t) (t .place .application) (λ e. accepts 0x9000 yes-9000) (λ e h. record { files = refl; secrets = refl });
+    }
+
+pub changed-accepted : (t : Tag) (c random : List ℕ) → accepting (answered t c random .status) ≡ false → Same t (answered t c random .tag)
+changed-accepted t c random = every-answer t c random (SameOr t) (same-kinds t c random)

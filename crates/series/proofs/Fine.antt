@@ -1,0 +1,147 @@
+-- A sound state, clause by clause; what ends, other keys and other bytes leave it sound.
+use mathlib.Core.Path.{_≡_}
+use mathlib.Core.Bool.{true, false}
+use mathlib.Core.List.{List}
+use Prim.Native.Nat.{ℕ, _-_}
+use lib.Dec.{eqb, leb}
+use lib.ListN.{length}
+use Rattle.base.specs.Decide.{and}
+use Rattle.base.specs.Bytes.{byteAt}
+use Rattle.base.proofs.Bytes.{and-left, and-right}
+use Rattle.messaging.specs.declared.Mode.{Mode}
+use Rattle.messaging.specs.Reply.{overlong}
+use Rattle.state.specs.declared.Secrets.{Secrets}
+use Rattle.state.specs.declared.Tag.{Tag}
+use Rattle.state.specs.State.{rulesOf, readingIn, noLive, noPending, quieted, endedOf}
+use Rattle.state.specs.Sound.{rulesSound, keysSound, aloneSound, levelSound, soundTag}
+use Rattle.answer.specs.Answer.{Answer, refusal, accepted, afterwards, raised}
+use Rattle.answer.specs.Filing.{withBytes, filed}
+use Rattle.keyring.specs.Keyring.{keyed}
+use Rattle.series.specs.Series.{Slots}
+use Rattle.series.proofs.Choices.{way, both-true}
+use Rattle.series.proofs.Clauses.{level-still, level-quiet, keys-none, alone-quiet}
+
+-- all of soundness but the clause of taps, with the settings' places
+pub record Calm (t : Tag) : Type 0 where
+  pub slots : Slots t
+  pub one : rulesSound (t .files) 1 ≡ true
+  pub two : rulesSound (t .files) 2 ≡ true
+  pub three : rulesSound (t .files) 3 ≡ true
+  pub counter : leb (t .tap .counter) 16777215 ≡ true
+  pub uid : eqb (byteAt (t .uid) 0) 4 ≡ true
+  pub keys : keysSound (t .live .on) (t .live .key) (t .pending .on) (t .pending .key) ≡ true
+  pub level : levelSound (t .place .application) (t .live .on) (t .pending .on) (t .tap .on) (t .place .file) ≡ true
+
+pub record Fine (t : Tag) : Type 0 where
+  pub calm : Calm t
+  pub alone : aloneSound (t .tap .on) (t .live .on) (t .pending .on) (readingIn (t .files) 2 .settings .head .sdm) ≡ true
+
+pub sound-fine : (t : Tag) → Slots t → soundTag t ≡ true → Fine t
+unfolding soundTag
+sound-fine t s e =
+    let b = and-right (rulesSound (t .files) 1) _ e in
+    let c = and-right (rulesSound (t .files) 2) _ b in
+    let d = and-right (rulesSound (t .files) 3) _ c in
+    let f = and-right (leb (t .tap .counter) 16777215) _ d in
+    let g = and-right (eqb (byteAt (t .uid) 0) 4) _ f in
+    let h = and-right (keysSound (t .live .on) (t .live .key) (t .pending .on) (t .pending .key)) _ g in
+    let sdm = readingIn (t .files) 2 .settings .head .sdm in
+    record {
+      calm =
+          record {
+            slots = s;
+            one = and-left _ _ e;
+            two = and-left _ _ b;
+            three = and-left _ _ c;
+            counter = and-left _ _ d;
+            uid = and-left _ _ f;
+            keys = and-left _ _ g;
+            level = and-right (aloneSound (t .tap .on) (t .live .on) (t .pending .on) sdm) _ h;
+          };
+      alone = and-left _ _ h;
+    }
+
+pub fine-sound : (t : Tag) → Fine t → soundTag t ≡ true
+unfolding soundTag
+fine-sound t h =
+    let c = h .calm in
+    both-true (c .one)
+    (both-true (c .two)
+    (both-true (c .three) (both-true (c .counter) (both-true (c .uid) (both-true (c .keys) (both-true (h .alone) (c .level)))))))
+
+-- ---- what ends, and what goes on
+pub fine-ended : (t : Tag) → Calm t → Fine (endedOf t)
+unfolding endedOf noLive noPending quieted
+fine-ended t c =
+    record {
+      calm =
+          record {
+            slots = record { rules = c .slots .rules; lens = c .slots .lens };
+            one = c .one;
+            two = c .two;
+            three = c .three;
+            counter = c .counter;
+            uid = c .uid;
+            keys = keys-none;
+            level = level-still (t .place .application) (t .live .on) (t .pending .on) (t .tap .on) (t .place .file) (c .level);
+          };
+      alone = alone-quiet false false (readingIn (t .files) 2 .settings .head .sdm);
+    }
+
+pub fine-after : (t : Tag) → Calm t → Fine (afterwards t)
+unfolding afterwards raised quieted
+fine-after t c =
+    record {
+      calm =
+          record {
+            slots = record { rules = c .slots .rules; lens = c .slots .lens };
+            one = c .one;
+            two = c .two;
+            three = c .three;
+            counter = c .counter;
+            uid = c .uid;
+            keys = c .keys;
+            level = level-quiet (t .place .application) (t .live .on) (t .pending .on) (t .tap .on) (t .place .file) (c .level);
+          };
+      alone = alone-quiet (t .live .on) (t .pending .on) (readingIn (t .files) 2 .settings .head .sdm);
+    }
+
+abbrev pub FineAfter : Answer → Type 0
+FineAfter a = Fine (a .tag)
+
+pub fine-refused : (t : Tag) → Calm t → (s : ℕ) → FineAfter (refusal t s)
+unfolding refusal
+fine-refused t c s = fine-ended t c
+
+pub fine-accepted : (t : Tag) → Calm t → (m : Mode) (d : List ℕ) → FineAfter (accepted t m d)
+unfolding accepted
+fine-accepted t c m d = way FineAfter (overlong m (length d)) (λ e. fine-refused t c 0x917E) (λ e. fine-after t c)
+
+-- ---- other keys, other bytes
+pub calm-keyed : (t : Tag) → Calm t → (s : Secrets) → Calm (keyed t s)
+unfolding keyed
+calm-keyed t c s =
+    record {
+      slots = record { rules = c .slots .rules; lens = c .slots .lens };
+      one = c .one;
+      two = c .two;
+      three = c .three;
+      counter = c .counter;
+      uid = c .uid;
+      keys = c .keys;
+      level = c .level;
+    }
+
+pub calm-filed : (t : Tag) → Calm t → (n at : ℕ) (p : List ℕ) → Calm (filed t (withBytes (t .files) n at p))
+unfolding filed withBytes rulesSound rulesOf
+calm-filed t c n at p =
+    record {
+      slots = record { rules = c .slots .rules; lens = c .slots .lens };
+      one = c .one;
+      two = c .two;
+      three = c .three;
+      counter = c .counter;
+      uid = c .uid;
+      keys = c .keys;
+      level = c .level;
+    }

@@ -1,0 +1,10 @@
+pub mod Choices
+pub mod Walk
+pub mod Places
+pub mod Clauses
+pub mod Fine
+pub mod Settled
+pub mod Soundness
+pub mod Changes
+pub mod Examples
+pub mod Born

@@ -1,0 +1,214 @@
+-- Accepted settings leave a sound state sound, and SDM is on in file 2 alone.
+use mathlib.Core.Path.{_≡_, refl, sym, _∙_, ap, ap₂, subst}
+use mathlib.Core.Bool.{Bool, true, false, not}
+use mathlib.Core.List.{List, [], _∷_, _++_}
+use Prim.Native.Nat.{ℕ, _+_, _-_, _*_, _≤_}
+use native.Mathlib.Omega.{arith}
+use lib.Dec.{eqb, leb, ltb}
+use lib.ListN.{length, take, drop, replicate, length-append, length-replicate, List·getD-eq-default}
+use lib.Seq.{take-at}
+use borrow.Author.Tests.{eqb-true, ltb-true, le-leb, eq-eqb}
+use Rattle.base.specs.Decide.{pick, and, or}
+use Rattle.base.specs.Bytes.{byteAt}
+use Rattle.base.proofs.Bytes.{and-left, laid-length, same-refl}
+use Rattle.messaging.specs.declared.Mode.{Mode}
+use Rattle.settings.specs.declared.Reading.{Reading}
+use Rattle.settings.specs.declared.Verdict.{Verdict}
+use Rattle.settings.specs.declared.Verdict.the-variants.{Good, Refused}
+use Rattle.settings.specs.Answers.{judged}
+use Rattle.settings.specs.Normal.{normal}
+use Rattle.settings.specs.Fields.{readOf, headOf, sdmOn}
+use Rattle.settings.specs.Spans.{readingOf}
+use Rattle.settings.specs.Rules.{sdmFile}
+use Rattle.settings.proofs.Kept.{front-kept}
+use Rattle.settings.proofs.NormalForm.{normal-length, normal-twice, normal-good}
+use Rattle.settings.proofs.Mirrors.{good-length}
+use Rattle.state.specs.declared.Files.{Files}
+use Rattle.state.specs.declared.Tag.{Tag}
+use Rattle.mirror.specs.Mirrors.{laidOf}
+use Rattle.state.specs.State.{fileOf, slotOf, rulesOf, readingIn}
+use Rattle.state.specs.Sound.{good, rulesSound}
+use Rattle.answer.specs.declared.Shown.{Shown}
+use Rattle.answer.specs.Taps.{goesOn, startStatus, counted, mirrorFor, shown}
+use Rattle.answer.specs.Filing.{tapped, tapRead}
+use Rattle.strings.specs.Strings.{withRules, recounted, restrung, byVerdict}
+use Rattle.series.specs.Series.{Slots}
+use Rattle.series.proofs.Choices.{not-both, way}
+use Rattle.series.proofs.Places.{slot-other, slot-same, same-slot}
+use Rattle.series.proofs.Clauses.{level-file, level-on, level-selected, alone-tap}
+use Rattle.series.proofs.Fine.{Calm, Fine, FineAfter, fine-refused, fine-accepted}
+
+-- ---- other settings
+good-is : (v : Verdict) → good v ≡ true → v ≡ Good
+good-is Good e = refl
+good-is (Refused s) e = absurd (not-both e)
+
+pub rules-good : (f : Files) (n : ℕ) → rulesSound f n ≡ true → judged n (rulesOf f n) ≡ Good
+unfolding rulesSound
+rules-good f n e = good-is (judged n (rulesOf f n)) (and-left _ _ e)
+
+normal-sound : (f : Files) (n : ℕ) (s : List ℕ) → rulesOf f n ≡ s → judged n s ≡ Good → normal s ≡ s → rulesSound f n ≡ true
+unfolding rulesSound
+normal-sound f n s e g h = rw (e, g, h) (same-refl s)
+
+unfoldable pub padOut : List ℕ → List ℕ
+padOut p = normal p ++ replicate (27 - length p) 0
+
+module _ (f : Files) (r : length (f .rules) ≡ 81) (l : length (f .lens) ≡ 3) (n : ℕ) (p : List ℕ) (g : judged n p ≡ Good) where
+  pub whole : length (padOut p) ≡ 27
+  unfolding padOut
+  whole =
+      let h : length p ≤ 27 = good-length n p g .1 in
+      length-append (normal p) (replicate (27 - length p) 0) ∙ ap₂ _+_ (normal-length p) (length-replicate (27 - length p) 0) ∙ omega arith
+
+  front : take (length p) (padOut p) ≡ normal p
+  unfolding padOut
+  front = take-at (normal p) (replicate (27 - length p) 0) (length p) (normal-length p)
+
+  pub restored : (k : ℕ) → slotOf n ≡ slotOf k → slotOf k ≤ 2 → rulesOf (withRules f n (padOut p) (length p)) k ≡ normal p
+  restored k e h = slot-same n k f (padOut p) (length p) whole r l e h ∙ front
+
+  changed-sound : (k : ℕ) → slotOf k ≤ 2 → rulesSound f k ≡ true → rulesSound (withRules f n (padOut p) (length p)) k ≡ true
+  unfolding rulesSound
+  changed-sound k h e = by (eqb (slotOf n) (slotOf k)) refl
+    where
+      by : (b : Bool) → eqb (slotOf n) (slotOf k) ≡ b → rulesSound (withRules f n (padOut p) (length p)) k ≡ true
+      by true q =
+          let s : slotOf n ≡ slotOf k = eqb-true (slotOf n) (slotOf k) q in
+          normal-sound (withRules f n (padOut p) (length p)) k (normal p) (restored k s h)
+          (subst (λ j. judged j (normal p) ≡ Good) (same-slot n k s h) (normal-good n p g .0)) (normal-twice p)
+      by false q =
+          rw (slot-other n k f (padOut p) (length p) whole (λ s. not-both (sym q ∙ eq-eqb (slotOf n) (slotOf k) s))) e
+
+slots-restrung : (f : Files) (n : ℕ) (text : List ℕ) (len : ℕ) → length (f .rules) ≡ 81 → length (f .lens) ≡ 3 → (t : Tag)
+    → t .files ≡ withRules f n text len → Slots t
+unfolding withRules
+slots-restrung f n text len r l t e =
+    record {
+      rules = ap (λ x. length (x .rules)) e ∙ laid-length text (slotOf n * 27) (f .rules) ∙ r;
+      lens = ap (λ x. length (x .lens)) e ∙ laid-length (len ∷ []) (slotOf n) (f .lens) ∙ l;
+    }
+
+slot-1 : slotOf 1 ≤ 2
+unfolding slotOf
+slot-1 = omega arith
+
+slot-2 : slotOf 2 ≤ 2
+unfolding slotOf
+slot-2 = omega arith
+
+slot-3 : slotOf 3 ≤ 2
+unfolding slotOf
+slot-3 = omega arith
+
+-- Turning SDM on from off sets the tap counter to 0; else it stays
+counter-restrung : (b : Bool) (counter : ℕ) → leb counter 16777215 ≡ true → leb (pick b 0 counter) 16777215 ≡ true
+counter-restrung true counter e = refl
+counter-restrung false counter e = e
+
+pub calm-restrung : (t : Tag) → Calm t → (n : ℕ) (p : List ℕ) → judged n p ≡ Good
+    → Calm (restrung t (withRules (t .files) n (padOut p) (length p)) n)
+unfolding restrung recounted
+calm-restrung t c n p g =
+    let f = withRules (t .files) n (padOut p) (length p) in
+    let stays : (k : ℕ) → slotOf k ≤ 2 → rulesSound (t .files) k ≡ true → rulesSound f k ≡ true =
+    changed-sound (t .files) (c .slots .rules) (c .slots .lens) n p g in
+    record {
+      slots = slots-restrung (t .files) n (padOut p) (length p) (c .slots .rules) (c .slots .lens) (restrung t f n) refl;
+      one = stays 1 slot-1 (c .one);
+      two = stays 2 slot-2 (c .two);
+      three = stays 3 slot-3 (c .three);
+      counter =
+          counter-restrung (and (readingIn f n .settings .head .sdm) (not (readingIn (t .files) n .settings .head .sdm))) (t .tap .counter) (c .counter);
+      uid = c .uid;
+      keys = c .keys;
+      level = c .level;
+    }
+
+pub fine-restrung : (t : Tag) → Calm t → (n : ℕ) (p : List ℕ) (m : Mode) → judged n p ≡ Good → FineAfter (byVerdict t n p m Good)
+unfolding padOut
+fine-restrung t c n p m g =
+    fine-accepted (restrung t (withRules (t .files) n (padOut p) (length p)) n) (calm-restrung t c n p g) m []
+
+-- ---- taps
+-- SDM is on only in file 2
+sdm-file : (n : ℕ) (s : List ℕ) → judged n s ≡ Good → readingOf (readOf s) .settings .head .sdm ≡ true → n ≡ 2
+unfolding sdmFile readingOf readOf headOf
+sdm-file n s g e = eqb-true n 2 (by (sdmOn s) e (front-kept n s g .file))
+  where
+    by : (b : Bool) → b ≡ true → or (not b) (eqb n 2) ≡ true → eqb n 2 ≡ true
+    by true q h = h
+    by false q h = absurd (not-both q)
+
+no-string : (f : Files) (n : ℕ) → length (f .lens) ≡ 3 → slotOf n ≡ 3 → rulesOf f n ≡ []
+unfolding rulesOf
+no-string f n l e =
+    ap (λ i. take (byteAt (f .lens) i) (take 27 (drop (slotOf n * 27) (f .rules)))) e
+    ∙ ap (λ k. take k (take 27 (drop (slotOf n * 27) (f .rules)))) (List·getD-eq-default (f .lens) 0 {n = 3} (omega arith))
+
+empty-off : readingOf (readOf []) .settings .head .sdm ≡ false
+unfolding readingOf readOf headOf sdmOn
+empty-off = refl
+
+pub tapped-file : (t : Tag) → Calm t → (n : ℕ) → readingIn (t .files) n .settings .head .sdm ≡ true → n ≡ 2
+unfolding readingIn slotOf
+tapped-file t c n e = by (eqb n 1) (eqb n 2) (eqb n 3) refl refl refl
+  where
+    by : (a b d : Bool) → eqb n 1 ≡ a → eqb n 2 ≡ b → eqb n 3 ≡ d → n ≡ 2
+    by true b d p q r = sdm-file n (rulesOf (t .files) n) (subst (λ k. judged k (rulesOf (t .files) k) ≡ Good) (sym (eqb-true n 1 p)) (rules-good (t .files) 1 (c .one))) e
+    by false true d p q r = eqb-true n 2 q
+    by false false true p q r = sdm-file n (rulesOf (t .files) n) (subst (λ k. judged k (rulesOf (t .files) k) ≡ Good) (sym (eqb-true n 3 r)) (rules-good (t .files) 3 (c .three))) e
+    by false false false p q r =
+        absurd (not-both (sym (ap (λ s. readingOf (readOf s) .settings .head .sdm) (no-string (t .files) n (c .slots .lens) (rw (p, q, r) refl)) ∙ empty-off) ∙ e))
+
+-- a tap that shows has a counter in range
+abbrev InRange : Shown → Type 0
+InRange s = eqb (s .status) 0 ≡ true → leb (s .tap .counter) 16777215 ≡ true
+
+counted-range : (going : Bool) (counter : ℕ) → leb counter 16777215 ≡ true → leb (counted going counter) 16777215 ≡ true
+unfolding counted
+counted-range true counter h = h
+counted-range false counter h =
+    way (λ k. leb k 16777215 ≡ true) (ltb counter 16777215) (λ e. let l = ltb-true counter 16777215 e in le-leb (counter + 1) 16777215 (omega arith)) (λ e. h)
+
+shown-range : (t : Tag) → leb (t .tap .counter) 16777215 ≡ true → (r : Reading) (iso : Bool) (random : List ℕ) → InRange (shown t r iso random)
+unfolding shown
+shown-range t h r iso random =
+    let going = goesOn (t .tap) iso in
+    let status = startStatus going (t .tap .counter) (r .settings .head .limit) (r .settings .places .limit) in
+    let counter = counted going (t .tap .counter) in
+    let l = laidOf (fileOf (t .files) 2) r (mirrorFor t (r .settings .head) counter random) in
+    way InRange (eqb status 0)
+    (λ e. way InRange (l .inside) (λ i z. counted-range going (t .tap .counter) h) (λ i z. absurd (not-both z)))
+    (λ e z. absurd (not-both (sym e ∙ z)))
+
+pub fine-tapped : (t : Tag) → Fine t → (n : ℕ) (iso : Bool) (random : List ℕ) (accepting refusing at count : ℕ)
+    → readingIn (t .files) n .settings .head .sdm ≡ true → t .live .on ≡ false → t .pending .on ≡ false
+    → or (t .place .application) (not (eqb (t .place .file) 0)) ≡ true
+    → FineAfter (tapRead t (shown t (readingIn (t .files) n) iso random) accepting refusing at count)
+unfolding tapRead tapped
+fine-tapped t h n iso random accepting refusing at count sdm off free placed =
+    let c = h .calm in
+    let s = shown t (readingIn (t .files) n) iso random in
+    way FineAfter (eqb (s .status) 0)
+    (λ e.
+    record {
+      calm =
+          record {
+            slots = record { rules = c .slots .rules; lens = c .slots .lens };
+            one = c .one;
+            two = c .two;
+            three = c .three;
+            counter = shown-range t (c .counter) (readingIn (t .files) n) iso random e;
+            uid = c .uid;
+            keys = c .keys;
+            level =
+                level-on (t .place .application) (t .live .on) (t .pending .on) (s .tap .on) (t .place .file)
+                (level-selected (t .place .application) (t .live .on) (t .pending .on) (t .tap .on) (t .place .file) (c .level) placed)
+                (level-file (t .place .application) (t .live .on) (t .pending .on) (t .tap .on) (t .place .file) (c .level));
+          };
+      alone =
+          alone-tap (s .tap .on) (t .live .on) (t .pending .on) (readingIn (t .files) 2 .settings .head .sdm) off free
+          (subst (λ k. readingIn (t .files) k .settings .head .sdm ≡ true) (tapped-file t c n sdm) sdm);
+    })
+    (λ e. fine-refused t c refusing)

@@ -1,0 +1,150 @@
+-- Sound in, sound out: every call, and so any series, leaves a sound state sound.
+use mathlib.Core.Path.{_≡_, refl}
+use mathlib.Core.Bool.{Bool, true, false}
+use mathlib.Core.List.{List, [], _∷_}
+use Prim.Native.Nat.{ℕ, _-_, _≤_}
+use lib.ListN.{drop}
+use borrow.Author.Tests.{le-leb}
+use Rattle.base.specs.Decide.{and, or}
+use Rattle.messaging.specs.declared.Mode.the-variants.{Full}
+use Rattle.state.specs.declared.Live.{Live}
+use Rattle.state.specs.declared.Pending.{Pending}
+use Rattle.state.specs.declared.Tag.{Tag}
+use Rattle.state.specs.State.{readingIn, noLive, noPending, quieted}
+use Rattle.state.specs.Sound.{keysSound, soundTag}
+use Rattle.answer.specs.Answer.{Answer}
+use Rattle.answer.specs.Filing.{storedIso, withBytes, filed}
+use Rattle.auth.specs.Parts.{talking, begun, sessionFrom, enteredFirst, enteredNext, entered}
+use Rattle.keyring.specs.Keyring.{keyed}
+use Rattle.selects.specs.Selects.{moved, selectedFile}
+use Rattle.tag.specs.Call.{answered, outcomeOf, replied, unanswered, byOutcome}
+use Rattle.tag.specs.declared.Outcome.{Outcome}
+use Rattle.tag.specs.declared.Outcome.the-variants.{Replied, SmallRoom, WrongRandom, Unsound}
+use Rattle.series.specs.Series.{Asked, step, after, Slots}
+use Rattle.series.proofs.Choices.{way}
+use Rattle.series.proofs.Walk.{Kinds, every-answer}
+use Rattle.series.proofs.Clauses.{level-file, level-on, level-zero, level-pending, level-either, keys-pending, keys-begun, keys-entered, keys-none, alone-quiet}
+use Rattle.series.proofs.Fine.{Calm, Fine, FineAfter, sound-fine, fine-sound, fine-ended, fine-after, fine-refused, fine-accepted, calm-keyed, calm-filed}
+use Rattle.series.proofs.Settled.{fine-restrung, fine-tapped}
+
+-- ---- authentication
+fine-talking : (t : Tag) → Calm t → (l : Live) (p : Pending) → keysSound (l .on) (l .key) (p .on) (p .key) ≡ true → t .place .application ≡ true
+    → Fine (talking t l p)
+unfolding talking quieted
+fine-talking t c l p k a =
+    record {
+      calm =
+          record {
+            slots = record { rules = c .slots .rules; lens = c .slots .lens };
+            one = c .one;
+            two = c .two;
+            three = c .three;
+            counter = c .counter;
+            uid = c .uid;
+            keys = k;
+            level =
+                level-on (t .place .application) (l .on) (p .on) false (t .place .file) a
+                (level-file (t .place .application) (t .live .on) (t .pending .on) (t .tap .on) (t .place .file) (c .level));
+          };
+      alone = alone-quiet (l .on) (p .on) (readingIn (t .files) 2 .settings .head .sdm);
+    }
+
+fine-begun : (t : Tag) → Calm t → (p : Pending) → p .key ≤ 4 → or (t .place .application) (t .live .on) ≡ true → FineAfter (begun t p)
+unfolding begun noLive
+fine-begun t c p k a =
+    fine-talking t c noLive p (keys-begun (p .on) (p .key) (le-leb (p .key) 4 k))
+    (level-either (t .place .application) (t .live .on) (t .pending .on) (t .tap .on) (t .place .file) (c .level) a)
+
+fine-entered : (t : Tag) → Calm t → t .pending .on ≡ true → (kx a random : List ℕ) → FineAfter (entered t kx a random)
+unfolding entered enteredFirst enteredNext sessionFrom noPending
+fine-entered t c p kx a random =
+    let k = keys-entered (t .pending .key) (keys-pending (t .live .on) (t .pending .on) (t .live .key) (t .pending .key) (c .keys) p) in
+    let h = level-pending (t .place .application) (t .live .on) (t .pending .on) (t .tap .on) (t .place .file) (c .level) p in
+    way FineAfter (t .pending .first) (λ e. fine-talking t c (sessionFrom (t .pending) kx a (drop 16 random)) noPending k h)
+    (λ e. fine-talking t c (sessionFrom (t .pending) kx a (t .pending .ti)) noPending k h)
+
+-- ---- selects
+fine-moved : (t : Tag) → Calm t → (application : Bool) → FineAfter (moved t application)
+unfolding moved noLive noPending quieted
+fine-moved t c application =
+    record {
+      calm =
+          record {
+            slots = record { rules = c .slots .rules; lens = c .slots .lens };
+            one = c .one;
+            two = c .two;
+            three = c .three;
+            counter = c .counter;
+            uid = c .uid;
+            keys = keys-none;
+            level = level-zero application;
+          };
+      alone = alone-quiet false false (readingIn (t .files) 2 .settings .head .sdm);
+    }
+
+fine-selected : (t : Tag) → Calm t → (n : ℕ) → n ≤ 3 → FineAfter (selectedFile t n)
+unfolding selectedFile quieted
+fine-selected t c n h =
+    way FineAfter (t .place .application)
+    (λ e.
+    record {
+      calm =
+          record {
+            slots = record { rules = c .slots .rules; lens = c .slots .lens };
+            one = c .one;
+            two = c .two;
+            three = c .three;
+            counter = c .counter;
+            uid = c .uid;
+            keys = c .keys;
+            level = level-on true (t .live .on) (t .pending .on) false n refl (le-leb n 3 h);
+          };
+      alone = alone-quiet (t .live .on) (t .pending .on) (readingIn (t .files) 2 .settings .head .sdm);
+    })
+    (λ e. fine-refused t c 0x6A82)
+
+-- ---- every call, and any series
+fine-kinds : (t : Tag) → Fine t → (c random : List ℕ) → Kinds t c random FineAfter
+unfolding storedIso
+fine-kinds t h c random =
+    let h₀ = h .calm in
+    record {
+      refuses = fine-refused t h₀;
+      begins = fine-begun t h₀;
+      enters = λ p kx a. fine-entered t h₀ p kx a random;
+      answers = fine-accepted t h₀;
+      rekeys = λ s. fine-accepted (keyed t s) (calm-keyed t h₀ s) Full [];
+      rekeys-first = λ s. fine-ended (keyed t s) (calm-keyed t h₀ s);
+      writes = λ n at p m. fine-accepted (filed t (withBytes (t .files) n at p)) (calm-filed t h₀ n at p) m [];
+      writes-iso = λ n at p. fine-after (filed t (withBytes (t .files) n at p)) (calm-filed t h₀ n at p);
+      restrings = λ n p m s. fine-restrung t h₀ n p m;
+      taps = λ n iso status refusing at count a. fine-tapped t h n iso random status refusing at count;
+      reads-iso = λ n at count. fine-after t h₀;
+      moves = fine-moved t h₀;
+      selects = fine-selected t h₀;
+    }
+
+fine-outcome : (t : Tag) → Fine t → (a : Answer) → Fine (a .tag) → (o : Outcome) → Fine (byOutcome t a o .tag)
+unfolding replied unanswered
+fine-outcome t h a f Replied = f
+fine-outcome t h a f SmallRoom = h
+fine-outcome t h a f WrongRandom = h
+fine-outcome t h a f Unsound = h
+
+pub fine-step : (t : Tag) → Fine t → (a : Asked) → Fine (step t a)
+unfolding step
+fine-step t h a =
+    fine-outcome t h (answered t (a .command) (a .random))
+    (every-answer t (a .command) (a .random) FineAfter (fine-kinds t h (a .command) (a .random))) (outcomeOf t (a .random) (a .room))
+
+pub fine-series : (t : Tag) → Fine t → (more : List Asked) → Fine (after t more)
+unfolding after
+fine-series t h [] = h
+fine-series t h (a ∷ more) = fine-series (step t a) (fine-step t h a) more
+
+-- a sound state stays sound, whatever is asked, once and in any series
+pub sound-call : (t : Tag) → Slots t → soundTag t ≡ true → (a : Asked) → soundTag (step t a) ≡ true
+sound-call t s e a = fine-sound (step t a) (fine-step t (sound-fine t s e) a)
+
+pub sound-series : (t : Tag) → Slots t → soundTag t ≡ true → (asked : List Asked) → soundTag (after t asked) ≡ true
+sound-series t s e asked = fine-sound (after t asked) (fine-series t (sound-fine t s e) asked)

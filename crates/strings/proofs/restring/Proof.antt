@@ -1,0 +1,21 @@
+-- `strings::restring` meets its contract.
+use borrow.Author.Needs.{needs}
+use Rattle.strings.specs.Strings.{restrung}
+use Rattle.strings.proofs.restring.Statement.{statement}
+use Rattle.strings.proofs.restring.Tie as tie
+
+sdm-of-requires : tie.Need-sdm-of-requires
+sdm-of-requires c κs = search needs
+
+sdm-of-requires-2 : tie.Need-sdm-of-requires-2
+sdm-of-requires-2 c κs = search needs
+
+retap-requires : tie.Need-retap-requires
+retap-requires c κs = search needs
+
+returns : tie.Need-returns
+unfolding restrung
+returns c = simp (c .retap .ensures, c .before .before .sdm-of .ensures, c .before .sdm-of2 .ensures)
+
+pub restring-spec : {M : Type 1} → statement M
+restring-spec = tie.close (tie.spec sdm-of-requires sdm-of-requires-2 retap-requires returns)

@@ -1,0 +1,95 @@
+-- Laws of the data of ISO commands, of the reply in the room, and of a call's outcome.
+use mathlib.Core.Path.{_≡_, ap, _∙_}
+use mathlib.Core.Bool.{true, false, not}
+use mathlib.Core.Logic.{⊎-elim}
+use mathlib.Core.List.{List, [], _∷_}
+use Prim.Native.Nat.{ℕ, _+_, _-_, _≤_, _<_, _/_, _%_}
+use native.Mathlib.Omega.{arith}
+use lib.Dec.{eqb, leb}
+use lib.ListN.{length, take, drop}
+use borrow.Author.Tests.{le-leb, lt-leb, lt-ltb, le-ltb, eq-eqb, ne-eqb, eqb-true, leb-true}
+use Rattle.base.specs.Decide.{pick, or}
+use Rattle.base.specs.Bytes.{byteAt, laid, over}
+use Rattle.base.proofs.Bytes.{le-or-lt, and-right, none}
+use Rattle.messaging.proofs.Pieces.{also}
+use Rattle.state.specs.declared.Tag.{Tag}
+use Rattle.state.specs.Sound.{soundTag}
+use Rattle.answer.specs.declared.Done.{Done}
+use Rattle.answer.specs.Answer.{Answer, Gives, answerOf}
+use Rattle.tag.specs.declared.Outcome.{Outcome}
+use Rattle.tag.specs.declared.Outcome.the-variants.{Replied, SmallRoom, WrongRandom, Unsound}
+use Rattle.tag.specs.declared.Called.{Called}
+use Rattle.tag.specs.InterIndustry.{isoForm, lcOf, hasLe, dataOf, fits}
+use Rattle.tag.specs.Call.{withStatus, answered, replyOf, replied, outcomeOf, byOutcome, roomBy, Laid, Calls, Replies}
+
+-- ---- the data of an ISO command
+-- n bytes are as many as Lc says, without Le or with it
+long-enough : (n b : ℕ) → or (eqb n (5 + b)) (eqb n (6 + b)) ≡ true → 5 + b ≤ n
+long-enough n b e = ⊎-elim (λ k. k) (λ k. absurd (too-short k)) (le-or-lt (5 + b) n)
+  where
+    too-short : n < 5 + b → ⊥
+    too-short k =
+        let w : false ≡ true = rw (ne-eqb n (5 + b) (λ p. omega arith), ne-eqb n (6 + b) (λ p. omega arith)) at e in
+        let q : _≡_ {A = ℕ} 0 1 = eqb-true 0 1 w in
+        omega arith
+
+-- a right form has as much data as it says
+pub data-whole : (c : List ℕ) → isoForm c ≡ true → 1 ≤ lcOf c → 5 + lcOf c ≤ length c
+unfolding isoForm lcOf
+data-whole c f =
+    ⊎-elim (λ h. rw (le-leb (length c) 5 h) (λ k. absurd (omega arith)))
+    (λ h. rw (lt-leb (length c) 5 h) (λ k. long-enough (length c) (byteAt c 4) (and-right (leb 1 (byteAt c 4)) _ (rw (lt-leb (length c) 5 h) at f))))
+    (le-or-lt (length c) 5)
+
+-- an update that fits has data
+pub update-whole : (c : List ℕ) → isoForm c ≡ true → fits false c ≡ true → 5 + lcOf c ≤ length c
+unfolding fits
+update-whole c f e = data-whole c f (leb-true 1 (lcOf c) (and-right (not (hasLe c)) (leb 1 (lcOf c)) e))
+
+-- no data where Lc is 0, and the part from 5 on where it is there
+pub no-data : (c : List ℕ) → lcOf c ≡ 0 → dataOf c ≡ []
+unfolding dataOf
+no-data c e = rw e
+
+pub data-is : (c : List ℕ) (n : ℕ) → n ≡ lcOf c → take (5 + n - 5) (drop 5 c) ≡ dataOf c
+unfolding dataOf
+data-is c n e = let q : 5 + n - 5 ≡ lcOf c = omega arith in ap (λ k. take k (drop 5 c)) q
+
+-- ---- the reply
+-- data and status bytes laid one behind the other, over the room
+pub laid-reply : (text : List ℕ) (n s : ℕ) (old mid new : List ℕ) → length text ≡ n → n ≤ 256 → 258 ≤ length old → mid ≡ laid text 0 old
+    → new ≡ laid ((s / 256 % 256) ∷ (s % 256) ∷ []) n mid → Laid (withStatus text s) old (n + 2) new
+unfolding withStatus
+laid-reply text n s old mid new e f r p q =
+    let h = also (also (none old) text n (omega arith) (omega arith) p) ((s / 256 % 256) ∷ (s % 256) ∷ []) (n + 2) (omega arith) (omega arith) q in
+    record { count = h .len; room = h .is }
+
+-- what the code's answer says is the reply
+pub replies : (a : Answer) (d : Done) (old new : List ℕ) (n : ℕ) → Gives a d → Laid (withStatus (take (d .length) (d .bytes)) (d .status)) old n new
+    → Replies a old (record { outcome = Replied; length = n; tag = d .tag }) new
+unfolding replied replyOf answerOf
+replies a d old new n g h =
+    record {
+      told = ap (λ k. record { outcome = Replied; length = k; tag = d .tag }) (h .count) ∙ ap replied (g .says);
+      left = h .room ∙ ap (λ x. over (replyOf x) old) (g .says);
+    }
+
+-- ---- the outcome
+-- refusals 1 to 3, in their order
+module _ (t : Tag) (random room : List ℕ) where
+  pub small-room : length room < 258 → outcomeOf t random room ≡ SmallRoom
+  unfolding outcomeOf
+  small-room h = rw (lt-ltb (length room) 258 h)
+
+  pub wrong-random : 258 ≤ length room → (length random ≡ 20 → ⊥) → outcomeOf t random room ≡ WrongRandom
+  unfolding outcomeOf
+  wrong-random h k = rw (le-ltb (length room) 258 h, ne-eqb (length random) 20 k)
+
+  pub sound-or-not : 258 ≤ length room → length random ≡ 20 → outcomeOf t random room ≡ pick (soundTag t) Replied Unsound
+  unfolding outcomeOf
+  sound-or-not h k = rw (le-ltb (length room) 258 h, eq-eqb (length random) 20 k)
+
+-- a call by its outcome
+pub calls : (t : Tag) (c random old : List ℕ) (r : Called) (new : List ℕ) (o : Outcome) → outcomeOf t random old ≡ o
+    → r ≡ byOutcome t (answered t c random) o → new ≡ roomBy (answered t c random) old o → Calls t c random old r new
+calls t c random old r new o e p q = record { told = rw e p; left = rw e q }

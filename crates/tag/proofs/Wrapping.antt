@@ -1,0 +1,203 @@
+-- Wrapped commands: the keys of a match, the length of the data, and each step as the next one's answer.
+use mathlib.Core.Path.{_≡_, refl, sym, ap, ap₂, subst, _∙_}
+use mathlib.Core.Bool.{Bool, true, false}
+use mathlib.Core.List.{List, [], _∷_, _++_}
+use mathlib.Core.Logic.{_⊎_, inl, inr, ⊎-elim}
+use Prim.Native.Nat.{ℕ, zero, suc, _+_, _-_, _≤_, _<_}
+use native.Mathlib.Omega.{arith}
+use denote.Enum.Declared.{tagOf}
+use types.Run.{OneOf}
+use borrow.Author.Tests.{eq-eqb, ne-eqb, le-leb, le-ltb, eqb-true}
+use lib.Dec.{eqb, leb, lit≤}
+use lib.ListN.{length, take, drop, length-take, length-drop, length-append}
+use lib.Seq.{take-append-seam}
+use Rattle.base.specs.Decide.{pick, and, or}
+use Rattle.base.specs.Bytes.{byteAt}
+use Rattle.base.proofs.Bytes.{and-right}
+use Rattle.settings.specs.declared.Reading.{Reading}
+use Rattle.messaging.specs.declared.Mode.{Mode}
+use Rattle.messaging.specs.declared.Session.{Session}
+use Rattle.messaging.specs.declared.Opened.{Opened}
+use Rattle.messaging.specs.declared.Opened.the-variants.{Data}
+use Rattle.messaging.specs.Protect.{Opening, plain, wrongLength, wrongMac, wrongPadding}
+use Rattle.messaging.specs.Command.{opening, openedStatus, told, left, answers, leaves, Opens}
+use Rattle.messaging.proofs.Opened.{the-type}
+use Rattle.state.specs.declared.Access.{Access}
+use Rattle.state.specs.declared.Tag.{Tag}
+use Rattle.state.specs.State.{readingIn}
+use Rattle.state.specs.Access.{accessFor}
+use Rattle.answer.specs.declared.Done.{Done}
+use Rattle.answer.specs.Answer.{Answer, Gives, refusal, sessionOf}
+use Rattle.tag.specs.Wrapped.{oneOf, formRight, partOf, orderStatus, headerLength, hasData, frontStatus, own, openingOf, onOpening, inMode, onAccess, talk, commanded, wrapped}
+
+-- ---- an answer that is equal
+pub gives-as : {a b : Answer} {d : Done} → Gives a d → a ≡ b → Gives b d
+gives-as {a} {b} {d} g e = subst (λ z. Gives z d) e g
+
+-- ---- the keys of an arm: what holds of each holds of the number, and a number that is none of them is not in the list
+abbrev pub All : (ℕ → Type 0) → List ℕ → Type 0
+All P [] = Unit {0}
+All P (k ∷ ks) = P k × All P ks
+
+pub each : (P : ℕ → Type 0) (ks : List ℕ) (x : ℕ) → OneOf ks x → All P ks → P x
+each P [] x h a = absurd h
+each P (k ∷ []) x h a = subst P (sym h) (a .0)
+each P (k ∷ k′ ∷ ks) x (inl e) a = subst P (sym e) (a .0)
+each P (k ∷ k′ ∷ ks) x (inr r) a = each P (k′ ∷ ks) x r (a .1)
+
+pub none : (ks : List ℕ) (x : ℕ) → (OneOf ks x → ⊥) → oneOf x ks ≡ false
+unfolding oneOf
+none [] x h = refl
+none (k ∷ []) x h = rw (ne-eqb x k h) refl
+none (k ∷ k′ ∷ ks) x h = rw (ne-eqb x k (λ e. h (inl e))) (none (k′ ∷ ks) x (λ r. h (inr r)))
+
+or-assoc : (a b c : Bool) → or a (or b c) ≡ or (or a b) c
+or-assoc true b c = refl
+or-assoc false b c = refl
+
+pub one-append : (a b : List ℕ) (x : ℕ) → oneOf x (a ++ b) ≡ or (oneOf x a) (oneOf x b)
+unfolding oneOf
+one-append [] b x = refl
+one-append (k ∷ a) b x = ap (or (eqb x k)) (one-append a b x) ∙ or-assoc (eqb x k) (oneOf x a) (oneOf x b)
+
+pub not-zero : (n : ℕ) → (n ≡ 0 → ⊥) → leb 1 n ≡ true
+not-zero zero h = absurd (h refl)
+not-zero (suc n) h = le-leb 1 (suc n) (omega arith)
+
+-- ---- step 2: a right form has at most 261 bytes, so at most 255 of data
+or-cases : (a b : Bool) → or a b ≡ true → (a ≡ true) ⊎ (b ≡ true)
+or-cases true b e = inl refl
+or-cases false b e = inr e
+
+abbrev lengthRight : List ℕ → Bool
+lengthRight c = or (eqb (length c) 5) (and (leb 1 (byteAt c 4)) (eqb (length c) (6 + byteAt c 4)))
+
+pub form-short : (c : List ℕ) → formRight c ≡ true → byteAt c 4 < 256 → length c ≤ 261
+unfolding formRight
+form-short c e h =
+    let last = eqb (byteAt c (length c - 1)) 0 in
+    let e′ = and-right last (lengthRight c) (and-right (leb 5 (length c)) (and last (lengthRight c)) e) in
+    ⊎-elim
+    (λ p. omega (arith, eqb-true (length c) 5 p))
+    (λ q. omega (arith, eqb-true (length c) (6 + byteAt c 4) (and-right (leb 1 (byteAt c 4)) (eqb (length c) (6 + byteAt c 4)) q)))
+    (or-cases (eqb (length c) 5) (and (leb 1 (byteAt c 4)) (eqb (length c) (6 + byteAt c 4))) e′)
+
+pub part-none : (c : List ℕ) → length c ≤ 5 → [] ≡ partOf c
+unfolding partOf
+part-none c h = let e : 0 ≡ length c - 6 = omega arith in ap (λ k. take k (drop 5 c)) e
+
+pub part-some : (c : List ℕ) → take (length c - 1 - 5) (drop 5 c) ≡ partOf c
+unfolding partOf
+part-some c = let e : length c - 1 - 5 ≡ length c - 6 = omega arith in ap (λ k. take k (drop 5 c)) e
+
+pub part-short : (c : List ℕ) → length c ≤ 261 → length (take (length c - 1 - 5) (drop 5 c)) ≤ 255
+part-short c h = simp (length-take, length-drop) (omega arith)
+
+-- ---- step 8: what a command opens to
+module _ {x old new : List ℕ} {o : Opening} {r : Opened} (h : Opens x o old r new) (f : length x ≤ 255) (g : length x ≤ length old) where
+  opens-told : r ≡ told o
+  unfolding answers
+  opens-told = h .answer ∙ rw (le-ltb 255 (length x) f, le-ltb (length old) (length x) g) refl
+
+  opens-left : new ≡ left old o
+  unfolding leaves
+  opens-left = h .room ∙ rw (le-ltb 255 (length x) f, le-ltb (length old) (length x) g) refl
+
+-- the data stands at the front of the room, and is no longer than it
+front : (o : Opening) (r : Opened) (old new : List ℕ) (n : ℕ) → r ≡ told o → new ≡ left old o → r ≡ Data n
+    → (n ≤ length new) × (o ≡ plain (take n new))
+front (plain d) r old new n e l k =
+    let m : n ≡ length d = cc in (
+      omega (arith, ap length l ∙ length-append d (drop (length d) old)),
+      ap plain (sym (ap₂ (λ i b. take i b) m l ∙ take-append-seam d (drop (length d) old))),
+    )
+front wrongLength r old new n e l k = let z : _≡_ {A = ℕ} 0 1 = cc in absurd (omega arith)
+front wrongMac r old new n e l k = let z : _≡_ {A = ℕ} 0 1 = cc in absurd (omega arith)
+front wrongPadding r old new n e l k = let z : _≡_ {A = ℕ} 0 1 = cc in absurd (omega arith)
+
+pub data-short : {x old new : List ℕ} {o : Opening} {r : Opened} {n : ℕ} → Opens x o old r new → length x ≤ 255 → length x ≤ length old
+    → r ≡ Data n → n ≤ length new
+data-short {x} {old} {new} {o} {r} {n} h f g e = front o r old new n (opens-told h f g) (opens-left h f g) e .0
+
+pub on-opened : {x old new : List ℕ} {o : Opening} {r : Opened} {n : ℕ} (t : Tag) (ins : ℕ) (m : Mode) (random : List ℕ)
+    → Opens x o old r new → length x ≤ 255 → length x ≤ length old → r ≡ Data n
+    → own t ins x (take n new) m random ≡ onOpening t ins x m random o
+on-opened {x} {old} {new} {o} {r} {n} t ins m random h f g e =
+    ap (onOpening t ins x m random) (sym (front o r old new n (opens-told h f g) (opens-left h f g) e .1))
+
+-- a command that is not opened is refused with what the answer says
+refused : (o : Opening) (r : Opened) (t : Tag) (ins : ℕ) (x : List ℕ) (m : Mode) (random : List ℕ) → r ≡ told o → 1 ≤ tagOf the-type r
+    → refusal t (openedStatus r) ≡ onOpening t ins x m random o
+refused (plain d) r t ins x m random e h =
+    let z : 1 ≤ tagOf the-type (Data (length d)) = subst (λ s. 1 ≤ tagOf the-type s) e h in absurd (omega arith)
+refused wrongLength r t ins x m random e h = ap (λ s. refusal t (openedStatus s)) e
+refused wrongMac r t ins x m random e h = ap (λ s. refusal t (openedStatus s)) e
+refused wrongPadding r t ins x m random e h = ap (λ s. refusal t (openedStatus s)) e
+
+pub on-refused : {x old new : List ℕ} {o : Opening} {r : Opened} (t : Tag) (ins : ℕ) (m : Mode) (random : List ℕ) → Opens x o old r new
+    → length x ≤ 255 → length x ≤ length old → OneOf (1 ∷ 2 ∷ 3 ∷ 4 ∷ 5 ∷ []) (tagOf the-type r)
+    → refusal t (openedStatus r) ≡ onOpening t ins x m random o
+on-refused {x} {old} {new} {o} {r} t ins m random h f g k =
+    refused o r t ins x m random (opens-told h f g)
+    (each (λ i. 1 ≤ i) (1 ∷ 2 ∷ 3 ∷ 4 ∷ 5 ∷ []) (tagOf the-type r) k (lit≤ tt, (lit≤ tt, (lit≤ tt, (lit≤ tt, (lit≤ tt, tt))))))
+
+pub same-opening : (t : Tag) (m : Mode) (ins : ℕ) (x : List ℕ) (s : Session) (h : ℕ) (d : Bool) → s ≡ sessionOf (t .live)
+    → h ≡ headerLength ins → d ≡ hasData ins → opening s m ins x h d ≡ openingOf t ins x m
+same-opening t m ins x s h d e f g =
+    ap (λ i. opening i m ins x h d) e
+    ∙ ap (λ i. opening (sessionOf (t .live)) m ins x i d) f
+    ∙ ap (opening (sessionOf (t .live)) m ins x (headerLength ins)) g
+
+-- ---- step 7, by whether CmdCtr is full
+module _ (t : Tag) (ins : ℕ) (x : List ℕ) (m : Mode) (random : List ℕ) (full : Bool) (e : full ≡ and (t .live .on) (eqb (t .live .counter) 65535)) where
+  abbrev onFull : Bool → Answer
+  onFull b = pick b (refusal t 0x91AE) (onOpening t ins x m random (openingOf t ins x m))
+
+  pub mode-full : full ≡ true → refusal t 0x91AE ≡ inMode t ins x m random
+  unfolding inMode
+  mode-full h = ap onFull (sym h ∙ e)
+
+  pub mode-open : full ≡ false → onOpening t ins x m random (openingOf t ins x m) ≡ inMode t ins x m random
+  unfolding inMode
+  mode-open h = ap onFull (sym h ∙ e)
+
+-- ---- steps 5 and 6, by the status of the front checks
+module _ (t : Tag) (ins : ℕ) (x random : List ℕ) (s : ℕ) (e : s ≡ frontStatus ins x (t .place .application)) where
+  pub talk-refused : (s ≡ 0 → ⊥) → refusal t s ≡ talk t ins x random
+  unfolding talk
+  talk-refused h = rw (← e, ne-eqb s 0 h) refl
+
+  pub talk-access : s ≡ 0 → (b : ℕ) (r : Reading) (a : Access) → b ≡ byteAt x 0 → r ≡ readingIn (t .files) b
+      → a ≡ accessFor ins (t .live) (r .settings .head) → onAccess t ins x random a ≡ talk t ins x random
+  unfolding talk
+  talk-access z b r a eb er ea =
+      ap (onAccess t ins x random) (ea ∙ ap (λ i. accessFor ins (t .live) (i .settings .head)) (er ∙ ap (readingIn (t .files)) eb))
+      ∙ rw (← e, eq-eqb s 0 z) refl
+
+-- ---- steps 2 to 4, by whether the form is right and by the status of the order
+module _ (t : Tag) (c random : List ℕ) (right : Bool) (e : right ≡ formRight c) where
+  abbrev orderOf : ℕ
+  orderOf = orderStatus (byteAt c 1) (byteAt c 2) (byteAt c 3) (t .pending .on)
+
+  abbrev onOrder : Bool → Answer
+  onOrder b = pick b (commanded t (byteAt c 1) (partOf c) random) (refusal t orderOf)
+
+  abbrev onForm : Bool → Answer
+  onForm b = pick b (onOrder (eqb orderOf 0)) (refusal t 0x917E)
+
+  pub wrapped-form : right ≡ false → refusal t 0x917E ≡ wrapped t c random
+  unfolding wrapped
+  wrapped-form h = ap onForm (sym h ∙ e)
+
+  module _ (h : right ≡ true) (ins p1 p2 s : ℕ) (ei : ins ≡ byteAt c 1) (e1 : p1 ≡ byteAt c 2) (e2 : p2 ≡ byteAt c 3) (es : s ≡ orderStatus ins p1 p2 (t .pending .on)) where
+    order : s ≡ orderOf
+    order = es ∙ rw (ei, e1, e2) refl
+
+    pub wrapped-order : (s ≡ 0 → ⊥) → refusal t s ≡ wrapped t c random
+    unfolding wrapped
+    wrapped-order n = ap (refusal t) order ∙ ap onOrder (sym (ne-eqb orderOf 0 (λ q. n (order ∙ q)))) ∙ ap onForm (sym h ∙ e)
+
+    pub wrapped-command : s ≡ 0 → (x : List ℕ) → x ≡ partOf c → commanded t ins x random ≡ wrapped t c random
+    unfolding wrapped
+    wrapped-command z x ex =
+        ap₂ (λ i p. commanded t i p random) ei ex ∙ ap onOrder (sym (eq-eqb orderOf 0 (sym order ∙ z))) ∙ ap onForm (sym h ∙ e)

@@ -1,0 +1,35 @@
+-- `tag::entry::reply` meets its contract: the random bytes fill their array, and the answer is laid.
+use mathlib.Core.Path.{subst, _∙_}
+use borrow.Author.Needs.{needs}
+use Rattle.base.proofs.Bytes.{laid-whole}
+use Rattle.answer.specs.Answer.{Gives}
+use Rattle.tag.specs.Call.{answered}
+use Rattle.tag.proofs.Calling.{replies}
+use Rattle.tag.proofs.entry.reply.Statement.{statement}
+use Rattle.tag.proofs.entry.reply.Tie as tie
+
+slice-aggregate-put : tie.Need-slice-aggregate-put
+slice-aggregate-put c = search needs
+
+put-requires : tie.Need-put-requires
+put-requires c κs = search needs
+
+answered-requires : tie.Need-answered-requires
+answered-requires c κs = search needs
+
+lay-requires : tie.Need-lay-requires
+lay-requires c κs = search needs
+
+same-length : tie.Need-same-length
+same-length c = search needs
+
+returns : tie.Need-returns
+returns c = let a = c .before .before .before .before .before .before .before .before .before .before .before .before .before .args in
+    replies (answered (a .tag) (a .command .now) (a .random .now)) (c .before .before .before .before .before .before .answered .result) (a .room .now) _ _
+    (subst (λ x. Gives (answered (a .tag) (a .command .now) x) (c .before .before .before .before .before .before .answered .result)) (c .before .before .before .before .before .before .before .before .put .ensures ∙ laid-whole (a .random .now) _ (c .before .before .before .before .before .before .before .before .before .before .before .before .before .pre .0)) (c .before .before .before .before .before .before .answered .ensures))
+    (c .before .before .before .lay .ensures)
+
+pub reply-spec : {M : Type 1} → statement M
+reply-spec =
+    tie.close
+    (tie.spec slice-aggregate-put put-requires answered-requires lay-requires same-length returns)

@@ -1,0 +1,95 @@
+-- `tag::iso_form::on_file` meets its contract: 01's order: P1, 6700, no file, then the command.
+use mathlib.Core.Path.{_≡_, sym, subst, _∙_}
+use mathlib.Core.Bool.{true}
+use borrow.Author.Tests.{le-leb, lt-leb, eq-eqb, ne-eqb}
+use borrow.Author.Needs.{needs}
+use Rattle.tag.specs.InterIndustry.{fits, onFile}
+use Rattle.tag.proofs.Calling.{update-whole}
+use Rattle.tag.proofs.iso_form.on_file.Statement.{statement}
+use Rattle.tag.proofs.iso_form.on_file.Tie as tie
+
+at-requires : tie.Need-at-requires
+at-requires c κs = search needs
+
+refuse-requires : tie.Need-refuse-requires
+refuse-requires c κs = search needs
+
+returns : tie.Need-returns
+unfolding onFile
+returns c = rw (← c .before .before .at .ensures, le-leb 128 (c .before .before .at .result) (c .before .if1 .taken)) (c .refuse .ensures)
+
+fits-requires : tie.Need-fits-requires
+fits-requires c κs = search needs
+
+refuse-requires-2 : tie.Need-refuse-requires-2
+refuse-requires-2 c κs = search needs
+
+returns-2 : tie.Need-returns-2
+unfolding onFile
+returns-2 c = rw (← c .before .before .before .before .before .before .at .ensures, lt-leb 128 (c .before .before .before .before .before .before .at .result) (c .before .before .before .before .before .if1 .left), ← c .before .before .before .before .fits2 .ensures, c .before .before .before .if2 .taken, eq-eqb (c .before .before .before .before .before .before .before .before .args .tag .place .file) 0 (c .before .if3 .taken)) (c .refuse2 .ensures)
+
+cast-at : tie.Need-cast-at
+cast-at c = search needs
+
+mul-at : tie.Need-mul-at
+mul-at c = search needs
+
+at-requires-2 : tie.Need-at-requires-2
+at-requires-2 c κs = search needs
+
+cast-at-2 : tie.Need-cast-at-2
+cast-at-2 c = search needs
+
+add-at : tie.Need-add-at
+add-at c = search needs
+
+at-requires-3 : tie.Need-at-requires-3
+at-requires-3 c κs = search needs
+
+cast-read-binary : tie.Need-cast-read-binary
+cast-read-binary c = search needs
+
+read-binary-requires : tie.Need-read-binary-requires
+read-binary-requires c κs = search needs
+
+returns-3 : tie.Need-returns-3
+unfolding onFile
+returns-3 c = rw (← c .before .before .before .before .before .before .before .before .before .at .ensures, lt-leb 128 (c .before .before .before .before .before .before .before .before .before .at .result) (c .before .before .before .before .before .before .before .before .if1 .left), ← c .before .before .before .before .before .before .before .fits2 .ensures, c .before .before .before .before .before .before .if2 .taken, ne-eqb (c .before .before .before .before .before .before .before .before .before .before .before .args .tag .place .file) 0 (c .before .before .before .before .if3 .left), c .before .before .if4 .taken, ← c .before .before .before .at2 .ensures, ← c .before .at3 .ensures) (c .read-binary .ensures)
+
+update-requires : tie.Need-update-requires
+update-requires c κs = update-whole (c .before .before .before .before .before .before .before .before .before .args .c .now) (c .before .before .before .before .before .before .before .before .before .pre) (subst (λ b. fits b (c .before .before .before .before .before .before .before .before .before .args .c .now) ≡ true) (c .if4 .left) (sym (c .before .before .before .before .before .fits2 .ensures) ∙ c .before .before .before .before .if2 .taken))
+
+returns-4 : tie.Need-returns-4
+unfolding onFile
+returns-4 c = rw (← c .before .before .before .before .before .before .before .before .at .ensures, lt-leb 128 (c .before .before .before .before .before .before .before .before .at .result) (c .before .before .before .before .before .before .before .if1 .left), ← c .before .before .before .before .before .before .fits2 .ensures, c .before .before .before .before .before .if2 .taken, ne-eqb (c .before .before .before .before .before .before .before .before .before .before .args .tag .place .file) 0 (c .before .before .before .if3 .left), c .before .if4 .left, ← c .before .before .at2 .ensures) (c .update .ensures)
+
+refuse-requires-3 : tie.Need-refuse-requires-3
+refuse-requires-3 c κs = search needs
+
+returns-5 : tie.Need-returns-5
+unfolding onFile
+returns-5 c = rw (← c .before .before .before .before .at .ensures, lt-leb 128 (c .before .before .before .before .at .result) (c .before .before .before .if1 .left), ← c .before .before .fits2 .ensures, c .before .if2 .left) (c .refuse3 .ensures)
+
+pub on-file-spec : {M : Type 1} → statement M
+on-file-spec =
+    tie.close
+    (tie.spec
+    at-requires
+    refuse-requires
+    returns
+    fits-requires
+    refuse-requires-2
+    returns-2
+    cast-at
+    mul-at
+    at-requires-2
+    cast-at-2
+    add-at
+    at-requires-3
+    cast-read-binary
+    read-binary-requires
+    returns-3
+    update-requires
+    returns-4
+    refuse-requires-3
+    returns-5)

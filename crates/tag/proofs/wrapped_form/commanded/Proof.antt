@@ -1,0 +1,39 @@
+-- `tag::wrapped_form::commanded` meets its contract: authentication by its key, and the others.
+use Rattle.tag.proofs.Wrapping.{gives-as}
+use Rattle.tag.specs.Wrapped.{commanded}
+use borrow.Author.Tests.{ne-eqb}
+use mathlib.Core.Path.{refl, sym, ap}
+use borrow.Author.Needs.{needs}
+use Rattle.tag.proofs.wrapped_form.commanded.Statement.{statement}
+use Rattle.tag.proofs.wrapped_form.commanded.Tie as tie
+
+first-requires : tie.Need-first-requires
+first-requires c κs = search needs
+
+next-requires : tie.Need-next-requires
+next-requires c κs = search needs
+
+second-requires : tie.Need-second-requires
+second-requires c κs = search needs
+
+talk-requires : tie.Need-talk-requires
+talk-requires c κs = search needs
+
+returns : tie.Need-returns
+unfolding commanded
+returns c = let a = c .before .before .before .args in gives-as (c .first .ensures) (sym (ap (λ n. commanded (a .tag) n (a .x .now) (a .random)) (c .before .match .keys1)))
+
+returns-2 : tie.Need-returns-2
+unfolding commanded
+returns-2 c = let a = c .before .before .before .args in gives-as (c .next .ensures) (sym (ap (λ n. commanded (a .tag) n (a .x .now) (a .random)) (c .before .match .keys2)))
+
+returns-3 : tie.Need-returns-3
+unfolding commanded
+returns-3 c = let a = c .before .before .before .args in gives-as (c .second .ensures) (sym (ap (λ n. commanded (a .tag) n (a .x .now) (a .random)) (c .before .match .keys3)))
+
+returns-4 : tie.Need-returns-4
+unfolding commanded
+returns-4 c = let a = c .before .before .before .args in gives-as (c .talk .ensures) (rw (ne-eqb (a .ins) 0x71 (c .before .match .rest .0 .0 .1), ne-eqb (a .ins) 0x77 (c .before .match .rest .0 .1), ne-eqb (a .ins) 0xAF (c .before .match .rest .1)) refl)
+
+pub commanded-spec : {M : Type 1} → statement M
+commanded-spec = tie.close (tie.spec first-requires next-requires second-requires talk-requires returns returns-2 returns-3 returns-4)

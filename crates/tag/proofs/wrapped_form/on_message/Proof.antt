@@ -1,0 +1,45 @@
+-- `tag::wrapped_form::on_message` meets its contract: what the message opens to.
+use Rattle.tag.proofs.Wrapping.{gives-as, data-short, on-opened, on-refused, same-opening}
+use Rattle.tag.specs.Wrapped.{onOpening}
+use Rattle.answer.specs.Answer.{refusal}
+use native.Mathlib.Omega.{arith}
+use mathlib.Core.Path.{ap, _∙_}
+use borrow.Author.Needs.{needs}
+use Rattle.tag.proofs.wrapped_form.on_message.Statement.{statement}
+use Rattle.tag.proofs.wrapped_form.on_message.Tie as tie
+
+session-of-requires : tie.Need-session-of-requires
+session-of-requires c κs = search needs
+
+header-requires : tie.Need-header-requires
+header-requires c κs = search needs
+
+has-data-requires : tie.Need-has-data-requires
+has-data-requires c κs = search needs
+
+slice-aggregate-open : tie.Need-slice-aggregate-open
+slice-aggregate-open c = search needs
+
+open-requires : tie.Need-open-requires
+open-requires c κs = search needs
+
+enum-known-o : tie.Need-enum-known-o
+enum-known-o c = search needs
+
+on-data-requires : tie.Need-on-data-requires
+on-data-requires c κs = omega (arith, data-short (c .before .before .before .before .«open» .ensures) (c .before .before .before .before .before .before .before .before .before .before .pre) (omega arith) (c .before .o .given .1))
+
+opened-status-requires : tie.Need-opened-status-requires
+opened-status-requires c κs = search needs
+
+refuse-requires : tie.Need-refuse-requires
+refuse-requires c κs = search needs
+
+returns : tie.Need-returns
+returns c = let a = c .before .before .before .before .before .before .before .before .before .before .before .args in gives-as (c .on-data .ensures) (on-opened (a .tag) (a .ins) (a .m) (a .random) (c .before .before .before .before .before .«open» .ensures) (c .before .before .before .before .before .before .before .before .before .before .before .pre) (omega arith) (c .before .before .o .given .1) ∙ ap (onOpening (a .tag) (a .ins) (a .x .now) (a .m) (a .random)) (same-opening (a .tag) (a .m) (a .ins) (a .x .now) (c .before .before .before .before .before .before .before .before .before .session-of .result) (c .before .before .before .before .before .before .before .before .header .result) (c .before .before .before .before .before .before .before .has-data .result) (c .before .before .before .before .before .before .before .before .before .session-of .ensures) (c .before .before .before .before .before .before .before .before .header .ensures) (c .before .before .before .before .before .before .before .has-data .ensures)))
+
+returns-2 : tie.Need-returns-2
+returns-2 c = let a = c .before .before .before .before .before .before .before .before .before .before .args in gives-as (c .refuse .ensures) (ap (refusal (a .tag)) (c .before .opened-status .ensures) ∙ on-refused (a .tag) (a .ins) (a .m) (a .random) (c .before .before .before .before .«open» .ensures) (c .before .before .before .before .before .before .before .before .before .before .pre) (omega arith) (c .before .before .match .keys2) ∙ ap (onOpening (a .tag) (a .ins) (a .x .now) (a .m) (a .random)) (same-opening (a .tag) (a .m) (a .ins) (a .x .now) (c .before .before .before .before .before .before .before .before .session-of .result) (c .before .before .before .before .before .before .before .header .result) (c .before .before .before .before .before .before .has-data .result) (c .before .before .before .before .before .before .before .before .session-of .ensures) (c .before .before .before .before .before .before .before .header .ensures) (c .before .before .before .before .before .before .has-data .ensures)))
+
+pub on-message-spec : {M : Type 1} → statement M
+on-message-spec = tie.close (tie.spec session-of-requires header-requires has-data-requires slice-aggregate-open open-requires enum-known-o on-data-requires opened-status-requires refuse-requires returns returns-2)

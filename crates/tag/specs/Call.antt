@@ -1,0 +1,76 @@
+-- A call: refusals 1 to 3, step 1, and the reply in the room.
+use mathlib.Core.List.{List, [], _∷_, _++_}
+use mathlib.Core.Path.{_≡_}
+use Prim.Native.Nat.{ℕ, _/_, _%_}
+use lib.Dec.{eqb, ltb}
+use lib.ListN.{length}
+use Rattle.base.specs.Decide.{pick, or}
+use Rattle.base.specs.Bytes.{byteAt, over}
+use Rattle.state.specs.declared.Tag.{Tag}
+use Rattle.state.specs.Sound.{soundTag}
+use Rattle.answer.specs.Answer.{Answer, refusal}
+use Rattle.tag.specs.declared.Outcome.{Outcome}
+use Rattle.tag.specs.declared.Outcome.the-variants.{Replied, SmallRoom, WrongRandom, Unsound}
+use Rattle.tag.specs.declared.Called.{Called}
+use Rattle.tag.specs.Wrapped.{wrapped}
+use Rattle.tag.specs.InterIndustry.{interIndustry}
+
+-- step 1: under 4 or over 261 bytes 6700; CLA not 00 or 90 6E00
+unfoldable pub answered : Tag → List ℕ → List ℕ → Answer
+answered t c random =
+    pick (or (ltb (length c) 4) (ltb 261 (length c))) (refusal t 0x6700)
+    (pick (eqb (byteAt c 0) 0x90) (wrapped t c random) (pick (eqb (byteAt c 0) 0) (interIndustry t c random) (refusal t 0x6E00)))
+
+-- data and two status bytes
+unfoldable pub withStatus : List ℕ → ℕ → List ℕ
+withStatus text s = text ++ (s / 256 % 256) ∷ (s % 256) ∷ []
+
+unfoldable pub replyOf : Answer → List ℕ
+replyOf a = withStatus (a .text) (a .status)
+
+-- refusals 1 to 3, in this order
+unfoldable pub outcomeOf : Tag → List ℕ → List ℕ → Outcome
+outcomeOf t random room =
+    pick (ltb (length room) 258) SmallRoom (pick (eqb (length random) 20) (pick (soundTag t) Replied Unsound) WrongRandom)
+
+-- refused: length 0 and the state as it was
+unfoldable pub unanswered : Outcome → Tag → Called
+unanswered o t = record { outcome = o; length = 0; tag = t }
+
+-- a reply: its length and the next state
+unfoldable pub replied : Answer → Called
+replied a = record { outcome = Replied; length = length (replyOf a); tag = a .tag }
+
+abbrev pub byOutcome : Tag → Answer → Outcome → Called
+byOutcome t a Replied = replied a
+byOutcome t a SmallRoom = unanswered SmallRoom t
+byOutcome t a WrongRandom = unanswered WrongRandom t
+byOutcome t a Unsound = unanswered Unsound t
+
+-- the reply at the front of the room and the rest untouched; on a refusal the room as it was
+abbrev pub roomBy : Answer → List ℕ → Outcome → List ℕ
+roomBy a room Replied = over (replyOf a) room
+roomBy a room SmallRoom = room
+roomBy a room WrongRandom = room
+roomBy a room Unsound = room
+
+pub record Calls (t : Tag) (c random old : List ℕ) (r : Called) (new : List ℕ) : Type 0 where
+  pub told : r ≡ byOutcome t (answered t c random) (outcomeOf t random old)
+  pub left : new ≡ roomBy (answered t c random) old (outcomeOf t random old)
+
+-- a text at the front of the room, and its length
+pub record Laid (text old : List ℕ) (n : ℕ) (new : List ℕ) : Type 0 where
+  pub count : n ≡ length text
+  pub room : new ≡ over text old
+
+-- an answer as a reply
+pub record Replies (a : Answer) (old : List ℕ) (r : Called) (new : List ℕ) : Type 0 where
+  pub told : r ≡ replied a
+  pub left : new ≡ over (replyOf a) old
+
+-- 01's number of an outcome; 0 where there is a reply
+unfoldable pub refusalNumber : Outcome → ℕ
+refusalNumber Replied = 0
+refusalNumber SmallRoom = 1
+refusalNumber WrongRandom = 2
+refusalNumber Unsound = 3

@@ -1,0 +1,3 @@
+pub mod Wrapped
+pub mod InterIndustry
+pub mod Call

@@ -1,0 +1,25 @@
+// The tag: a fresh one, and the answer to every command in every state.
+mod answering;
+mod entry;
+mod iso_form;
+mod wrapped_form;
+
+pub use entry::call;
+pub use state::Birth;
+pub use state::Tag;
+pub use state::fresh;
+
+// A reply, or refusals 1 to 3.
+pub enum Outcome {
+    Replied,
+    SmallRoom,
+    WrongRandom,
+    Unsound,
+}
+
+// The outcome, the reply's length and the next state.
+pub struct Called {
+    pub outcome: Outcome,
+    pub length: usize,
+    pub tag: Tag,
+}
