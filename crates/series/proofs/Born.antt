@@ -1,6 +1,6 @@
 -- A fresh tag is sound, and stays so in any series of calls.
 use mathlib.Core.Path.{_≡_, refl}
-use mathlib.Core.Bool.{Bool, true}
+use mathlib.Core.Bool.{true}
 use mathlib.Core.List.{List}
 use Prim.Native.Nat.{ℕ}
 use lib.Dec.{eqb}
@@ -13,7 +13,7 @@ use Rattle.settings.specs.Rules.{found, optionBits, sdmFile, condition, rights,
 use Rattle.settings.specs.Normal.{plainMode, freeBits, normal}
 use Rattle.settings.specs.Answers.{verdictOf, judged}
 use Rattle.state.specs.State.{slotOf, rulesOf, readingIn, noLive, noPending}
-use Rattle.state.specs.Fresh.{container, deliveredFiles, freshTag, rightUid}
+use Rattle.state.specs.Fresh.{deliveredFiles, freshTag, rightUid}
 use Rattle.state.specs.Sound.{rulesSound, keysSound, aloneSound, levelSound, soundTag}
 use Rattle.series.specs.Series.{Asked, after, Slots}
 use Rattle.series.proofs.Soundness.{sound-series}

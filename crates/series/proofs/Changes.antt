@@ -5,16 +5,14 @@ use mathlib.Core.Bool.{Bool, true, false, not}
 use mathlib.Core.List.{List, []}
 use Prim.Native.Nat.{ℕ}
 use lib.Dec.{eqb}
-use lib.ListN.{length, drop}
-use Rattle.base.specs.Decide.{pick, or}
+use lib.ListN.{length}
+use Rattle.base.specs.Decide.{or}
 use Rattle.messaging.specs.declared.Mode.{Mode}
 use Rattle.messaging.specs.declared.Mode.the-variants.{Plain, Mac, Full}
 use Rattle.messaging.specs.Reply.{overlong, closedLength, hiddenLength}
-use Rattle.settings.specs.declared.Verdict.the-variants.{Good}
 use Rattle.state.specs.declared.Tag.{Tag}
 use Rattle.state.specs.State.{readingIn, endedOf}
-use Rattle.answer.specs.declared.Shown.{Shown}
-use Rattle.answer.specs.Answer.{Answer, given, refusal, accepted, afterwards}
+use Rattle.answer.specs.Answer.{Answer, refusal, accepted, afterwards}
 use Rattle.answer.specs.Taps.{shown}
 use Rattle.answer.specs.Filing.{storedIso, tapped, tapRead}
 use Rattle.auth.specs.Parts.{talking, begun, enteredFirst, enteredNext, entered}
@@ -65,7 +63,7 @@ unfolding passing accepting
 yes-91AF = refl
 
 -- an empty reply is short enough in every mode, so a change is accepted
-short-none : (m : Mode) → overlong m 0 ≡ false
+pub short-none : (m : Mode) → overlong m 0 ≡ false
 unfolding overlong closedLength hiddenLength
 short-none Plain = refl
 short-none Mac = refl

@@ -1,22 +1,18 @@
 -- 01's examples marked †, over the definitions, for a fresh tag of any UID and any random bytes; the settings strings among them.
 use mathlib.Core.Path.{_≡_, refl}
-use mathlib.Core.Bool.{Bool}
-use mathlib.Core.List.{List, [], _∷_, _++_}
+use mathlib.Core.List.{List, [], _∷_}
 use Prim.Native.Nat.{ℕ}
-use lib.ListN.{replicate}
-use Rattle.base.specs.Bytes.{same, number, low, laid}
+use Rattle.base.specs.Bytes.{same, number, low}
 use Rattle.messaging.specs.Protect.{content, signed, sent, macRight}
 use Rattle.messaging.specs.Command.{partRight, lengthRight, checked, opening, openedStatus}
 use Rattle.messaging.specs.Reply.{closed, closedLength, overlong}
 use Rattle.settings.specs.declared.Verdict.the-variants.{Good, Refused}
 use Rattle.settings.specs.declared.Status.the-variants.{ParameterError}
 use Rattle.settings.specs.Fields.{sdmOn, sdmByte, modeOf, headOf, hasUid, hasCounter, hasPicc, hasMac, hasEnc, present, three, fields, ends, placesOf, placesIn, sizeOf, readOf}
-use Rattle.settings.specs.Spans.{span, uidSpan, counterSpan, piccSpan, encSpan, macSpan, spansOf, inside, apart, apartFrom, allApart, readingOf}
-use Rattle.settings.specs.Rules.{found, optionBits, sdmFile, condition, rights, sdmOptionsBits, sdmRights, metaMirrors, metaOff, encNeeds, encSize, macInput, encBetween, positionRules, sdmRules, rules}
-use Rattle.settings.specs.Normal.{plainMode, freeBits, normal}
-use Rattle.settings.specs.Answers.{verdictOf, judged}
+use Rattle.settings.specs.Spans.{span, uidSpan, counterSpan, piccSpan, encSpan, macSpan, readingOf}
+use Rattle.settings.specs.Normal.{normal}
+use Rattle.settings.specs.Answers.{judged}
 use Rattle.settings.proofs.Examples.{example, shown}
-use Rattle.state.specs.declared.Tag.{Tag}
 use Rattle.state.specs.State.{startOf, sizeOf as fileSize, fileOf, slotOf, rulesOf, readingIn, noLive, noPending, quieted, endedOf}
 use Rattle.state.specs.Fresh.{container, deliveredFiles, freshTag}
 use Rattle.state.specs.Access.{granted, readGrant, fileMode, accessFor, accessStatus}
@@ -29,29 +25,7 @@ use Rattle.binaries.specs.Binaries.{mayPass, mayUse, readPart as readPartIso, r
 use Rattle.tag.specs.Wrapped.{oneOf, formRight, partOf, orderStatus, headerLength, hasData, fileStatus, byteStatus, frontStatus, own, inMode, talk, commanded, wrapped}
 use Rattle.tag.specs.InterIndustry.{isoForm, lcOf, hasLe, dataOf, fits, onFile, isoCommanded, interIndustry}
 use Rattle.tag.specs.Call.{answered, withStatus, replyOf}
-
--- 00A4040007D276000085010100
-unfoldable pub selectApplication : List ℕ
-selectApplication = 0x00 ∷ 0xA4 ∷ 0x04 ∷ 0x00 ∷ 0x07 ∷ 0xD2 ∷ 0x76 ∷ 0x00 ∷ 0x00 ∷ 0x85 ∷ 0x01 ∷ 0x01 ∷ 0x00 ∷ []
-
--- 00A4000C02E104
-unfoldable pub selectFile : List ℕ
-selectFile = 0x00 ∷ 0xA4 ∷ 0x00 ∷ 0x0C ∷ 0x02 ∷ 0xE1 ∷ 0x04 ∷ []
-
--- 90F5000001nn00
-unfoldable pub settingsOf : ℕ → List ℕ
-settingsOf n = 0x90 ∷ 0xF5 ∷ 0x00 ∷ 0x00 ∷ 0x01 ∷ n ∷ 0x00 ∷ []
-
--- 90AD0000070300000000000000
-unfoldable pub readThird : List ℕ
-readThird = 0x90 ∷ 0xAD ∷ 0x00 ∷ 0x00 ∷ 0x07 ∷ 0x03 ∷ 0x00 ∷ 0x00 ∷ 0x00 ∷ 0x00 ∷ 0x00 ∷ 0x00 ∷ 0x00 ∷ []
-
--- a fresh tag with the application selected, and then file 2
-unfoldable pub inApplication : List ℕ → List ℕ → Tag
-inApplication uid random = answered (freshTag uid) selectApplication random .tag
-
-unfoldable pub onSecond : List ℕ → List ℕ → Tag
-onSecond uid random = answered (inApplication uid random) selectFile random .tag
+use Rattle.series.specs.Worked.{selectApplication, selectFile, settingsOf, readThird, inApplication, onSecond}
 
 pub record Examples (uid random : List ℕ) : Type 0 where
   pub select-application : replyOf (answered (freshTag uid) selectApplication random) ≡ 0x90 ∷ 0x00 ∷ []

@@ -124,6 +124,9 @@ fine-kinds t h c random =
       selects = fine-selected t h₀;
     }
 
+pub fine-answered : (t : Tag) → Fine t → (c random : List ℕ) → Fine (answered t c random .tag)
+fine-answered t h c random = every-answer t c random FineAfter (fine-kinds t h c random)
+
 fine-outcome : (t : Tag) → Fine t → (a : Answer) → Fine (a .tag) → (o : Outcome) → Fine (byOutcome t a o .tag)
 unfolding replied unanswered
 fine-outcome t h a f Replied = f
@@ -135,7 +138,7 @@ pub fine-step : (t : Tag) → Fine t → (a : Asked) → Fine (step t a)
 unfolding step
 fine-step t h a =
     fine-outcome t h (answered t (a .command) (a .random))
-    (every-answer t (a .command) (a .random) FineAfter (fine-kinds t h (a .command) (a .random))) (outcomeOf t (a .random) (a .room))
+    (fine-answered t h (a .command) (a .random)) (outcomeOf t (a .random) (a .room))
 
 pub fine-series : (t : Tag) → Fine t → (more : List Asked) → Fine (after t more)
 unfolding after

@@ -17,7 +17,7 @@ use Rattle.messaging.specs.declared.Proof.the-variants.{Right, NotThirtyTwo, Wr
 use Rattle.messaging.specs.declared.Opened.the-variants.{WrongLength, WrongMac, WrongPadding}
 use Rattle.messaging.specs.Authentication.{judged as proved, proofStatus, deciphered}
 use Rattle.messaging.specs.Protect.{Opening, plain, wrongLength, wrongMac, wrongPadding}
-use Rattle.messaging.specs.Command.{opening, openedStatus}
+use Rattle.messaging.specs.Command.{openedStatus}
 use Rattle.settings.specs.declared.Verdict.{Verdict}
 use Rattle.settings.specs.declared.Verdict.the-variants.{Good, Refused}
 use Rattle.settings.specs.Answers.{judged, statusWord}
@@ -29,7 +29,7 @@ use Rattle.state.specs.declared.Secrets.{Secrets}
 use Rattle.state.specs.declared.Tag.{Tag}
 use Rattle.state.specs.State.{sizeOf, readingIn, keyIn, endedOf}
 use Rattle.state.specs.Access.{accessFor, accessStatus}
-use Rattle.answer.specs.Answer.{Answer, given, refusal, accepted, afterwards, sessionOf}
+use Rattle.answer.specs.Answer.{Answer, given, refusal, accepted, afterwards}
 use Rattle.answer.specs.Taps.{shown}
 use Rattle.answer.specs.Filing.{stored, storedIso, tapRead, withBytes, filed}
 use Rattle.auth.specs.Parts.{keyStatus, valuesStatus, firstStatus, nextStatus, pendingFirst, pendingNext, begun, entered, byProof, partOneFirst, partOneNext, partTwoAnswer}
@@ -39,7 +39,7 @@ use Rattle.settings.specs.Fields.{three}
 use Rattle.contents.specs.Contents.{rangeStatus, asked, readPart, readData, writeStatus, writtenData}
 use Rattle.selects.specs.Selects.{moved, selectedFile, ofId, byId, byName, selected, piccName, applicationName}
 use Rattle.binaries.specs.Binaries.{mayUse, tapStatus, readPart as readPartIso, readRange, readBinary, updateRange, updatedBinary}
-use Rattle.tag.specs.Wrapped.{oneOf, formRight, partOf, wrappedCommands, orderStatus, headerLength, hasData, byteStatus, frontStatus, own, openingOf, onOpening, inMode, onAccess, talk, commanded, wrapped}
+use Rattle.tag.specs.Wrapped.{oneOf, formRight, partOf, wrappedCommands, orderStatus, headerLength, byteStatus, frontStatus, own, openingOf, onOpening, inMode, onAccess, talk, commanded, wrapped}
 use Rattle.tag.specs.InterIndustry.{isoForm, fits, dataOf, onFile, isoCommands, isoCommanded, interIndustry}
 use Rattle.tag.specs.Call.{answered}
 use Rattle.series.specs.Series.{accepting}

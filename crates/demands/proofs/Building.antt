@@ -1,0 +1,170 @@
+-- A wrapped command as the other side builds it: its form and length, and that steps 1 to 4 pass it.
+use mathlib.Core.Path.{_≡_, refl, sym, _∙_, ap, subst}
+use mathlib.Core.Bool.{Bool, true, false}
+use mathlib.Core.List.{List, [], _∷_, _++_}
+use Prim.Native.Nat.{ℕ, zero, suc, _+_, _-_, _*_, _/_, _%_, _≤_}
+use native.Mathlib.Omega.{arith}
+use lib.Dec.{eqb, ltb, lit<}
+use lib.ListN.{length, take, drop, replicate, length-append}
+use lib.Seq.{take-append-seam}
+use borrow.Author.Tests.{eq-eqb, ne-eqb, le-leb, le-ltb}
+use Rattle.base.specs.Decide.{and, or}
+use Rattle.base.specs.Bytes.{byteAt, AllBytes}
+use Rattle.base.proofs.Bytes.{append-bytes}
+use Rattle.aes.specs.Block.{IsBlock}
+use Rattle.aes.specs.Cbc.{cbcOut}
+use Rattle.aes.specs.Keys.{keyExpansion}
+use Rattle.aes.proofs.Chaining.{cbcOut-length}
+use Rattle.aes.proofs.Inverse.{cipher-block}
+use Rattle.aes.proofs.KeyBlocks.{keys-are}
+use Rattle.aes.proofs.Macs.{mac-length}
+use Rattle.messaging.specs.declared.Mode.{Mode}
+use Rattle.messaging.specs.declared.Mode.the-variants.{Plain, Mac, Full}
+use Rattle.messaging.specs.declared.Session.{Session}
+use Rattle.messaging.specs.Padding.{padded, paddedLength}
+use Rattle.messaging.specs.Protect.{mac, messageMac, commandIv, sent, signed}
+use Rattle.messaging.specs.Command.{wrapped}
+use Rattle.messaging.proofs.Unpadding.{padded-length}
+use Rattle.state.specs.declared.Tag.{Tag}
+use Rattle.answer.specs.Answer.{Answer}
+use Rattle.tag.specs.Wrapped.{oneOf, formRight, partOf, orderStatus, headerLength, fileStatus, byteStatus, frontStatus, talk, commanded, wrapped as onWrapped}
+use Rattle.tag.specs.Call.{answered}
+use Rattle.series.proofs.Choices.{not-both, way, both-true, or-right}
+use Rattle.demands.specs.Reaching.{built}
+
+-- a test has one answer
+pub against : {b : Bool} → b ≡ true → {A : Type 0} → b ≡ false → A
+against e {A} z = absurd (not-both (sym z ∙ e))
+
+-- ---- the length of what is wrapped
+pub pad-bytes : (n : ℕ) → AllBytes (128 ∷ replicate n 0)
+unfolding AllBytes
+pad-bytes n zero = lit< tt
+pad-bytes zero (suc i) = lit< tt
+pad-bytes (suc n) (suc zero) = lit< tt
+pad-bytes (suc n) (suc (suc i)) = pad-bytes n (suc i)
+
+module _ (s : Session) (k : IsBlock (s .enc)) (d : List ℕ) (h : AllBytes d) where
+  text-bytes : AllBytes (padded d)
+  unfolding padded
+  text-bytes = append-bytes d (128 ∷ replicate (15 - length d % 16) 0) h (pad-bytes (15 - length d % 16))
+
+  text-length : length (padded d) ≡ length d / 16 * 16 + 16
+  unfolding paddedLength
+  text-length = padded-length d
+
+  text-whole : length (padded d) % 16 ≡ 0
+  text-whole = rw text-length (omega arith)
+
+  hidden-length : length (cbcOut (keyExpansion (s .enc)) (commandIv s) (padded d)) ≡ length d / 16 * 16 + 16
+  unfolding commandIv
+  hidden-length =
+      cbcOut-length (keyExpansion (s .enc)) (keys-are (s .enc) k) (commandIv s) (padded d)
+      (cipher-block (keyExpansion (s .enc)) (keys-are (s .enc) k) _) text-bytes text-whole
+      ∙ text-length
+
+  part-bound : (m : Mode) → length (sent m s (commandIv s) true d) ≤ length d + 16
+  unfolding sent
+  part-bound Plain = omega arith
+  part-bound Mac = omega arith
+  part-bound Full = omega (arith, hidden-length)
+
+tag-length : (s : Session) (first : ℕ) (body : List ℕ) → length (messageMac s first body) ≡ 8
+unfolding messageMac mac
+tag-length s first body = mac-length _
+
+signed-bound : (m : Mode) (s : Session) (first : ℕ) (body : List ℕ) → length (signed m s first body) ≤ length body + 8
+unfolding signed
+signed-bound Plain s first body = omega arith
+signed-bound Mac s first body = omega (arith, length-append body (messageMac s first body), tag-length s first body)
+signed-bound Full s first body = omega (arith, length-append body (messageMac s first body), tag-length s first body)
+
+-- a header, its data padded to blocks, and a MAC of 8
+pub wrapped-bound : (s : Session) (m : Mode) (cmd : ℕ) (header d : List ℕ) → IsBlock (s .enc) → AllBytes d
+    → length (wrapped s m cmd header true d) ≤ length header + length d + 24
+unfolding wrapped
+wrapped-bound s m cmd header d k h =
+    let p = sent m s (commandIv s) true d in
+    omega (arith, signed-bound m s cmd (header ++ p), length-append header p, part-bound s k d h m)
+
+-- the header stands in front
+signed-first : (m : Mode) (s : Session) (first n : ℕ) (p : List ℕ) → byteAt (signed m s first (n ∷ p)) 0 ≡ n
+unfolding signed
+signed-first Plain s first n p = refl
+signed-first Mac s first n p = refl
+signed-first Full s first n p = refl
+
+pub wrapped-first : (s : Session) (m : Mode) (cmd n : ℕ) (d : List ℕ) → byteAt (wrapped s m cmd (n ∷ []) true d) 0 ≡ n
+unfolding wrapped
+wrapped-first s m cmd n d = signed-first m s cmd n (sent m s (commandIv s) true d)
+
+signed-filled : (m : Mode) (s : Session) (first n : ℕ) (p : List ℕ) → 1 ≤ length (signed m s first (n ∷ p))
+unfolding signed
+signed-filled Plain s first n p = omega arith
+signed-filled Mac s first n p = omega arith
+signed-filled Full s first n p = omega arith
+
+pub wrapped-filled : (s : Session) (m : Mode) (cmd n : ℕ) (d : List ℕ) → 1 ≤ length (wrapped s m cmd (n ∷ []) true d)
+unfolding wrapped
+wrapped-filled s m cmd n d = signed-filled m s cmd n (sent m s (commandIv s) true d)
+
+-- ---- steps 1 to 4
+last-byte : (x : List ℕ) (z : ℕ) → byteAt (x ++ z ∷ []) (length x) ≡ z
+last-byte [] z = refl
+last-byte (a ∷ x) z = last-byte x z
+
+built-length : (ins : ℕ) (x : List ℕ) → length (built ins x) ≡ 6 + length x
+unfolding built
+built-length ins x = simp length-append (omega arith)
+
+built-last : (ins : ℕ) (x : List ℕ) → byteAt (built ins x) (length (built ins x) - 1) ≡ 0
+unfolding built
+built-last ins x =
+    let e : length (built ins x) - 1 ≡ suc (suc (suc (suc (suc (length x))))) = omega (arith, built-length ins x) in
+    ap (byteAt (built ins x)) e ∙ last-byte x 0
+
+built-part : (ins : ℕ) (x : List ℕ) → partOf (built ins x) ≡ x
+unfolding built partOf
+built-part ins x =
+    let e : length (built ins x) - 6 ≡ length x = omega (arith, built-length ins x) in
+    ap (λ n. take n (drop 5 (built ins x))) e ∙ take-append-seam x _
+
+built-form : (ins : ℕ) (x : List ℕ) → 1 ≤ length x → formRight (built ins x) ≡ true
+unfolding built formRight
+built-form ins x h =
+    let c = built ins x in
+    let l : length (built ins x) ≡ 6 + length x = built-length ins x in
+    both-true (le-leb 5 (length c) (omega arith))
+    (both-true (eq-eqb (byteAt c (length c - 1)) 0 (built-last ins x))
+    (or-right (eqb (length c) 5) (both-true (le-leb 1 (length x) h) (eq-eqb (length c) (6 + length x) l))))
+
+both-false : {a b : Bool} → a ≡ false → b ≡ false → or a b ≡ false
+both-false e f = rw (e, f) refl
+
+-- with no part two pending a command other than 71, 77 and AF comes to step 5
+in-order : (pending : Bool) → pending ≡ false → eqb (orderStatus 0x5F 0 0 pending) 0 ≡ true
+unfolding orderStatus oneOf
+in-order pending e = rw e refl
+
+pub built-talks : (t : Tag) (x random : List ℕ) (P : Answer → Type 0) → 1 ≤ length x → length x ≤ 255 → t .pending .on ≡ false
+    → P (talk t 0x5F x random) → P (answered t (built 0x5F x) random)
+unfolding built answered onWrapped commanded
+built-talks t x random P h b off p =
+    let c = built 0x5F x in
+    let l : length (built 0x5F x) ≡ 6 + length x = built-length 0x5F x in
+    let short : or (ltb (length c) 4) (ltb 261 (length c)) ≡ false =
+    both-false (le-ltb (length c) 4 (omega arith)) (le-ltb 261 (length c) (omega arith)) in
+    way P (or (ltb (length c) 4) (ltb 261 (length c))) (λ z. against z short)
+    (λ z.
+    way P (formRight c)
+    (λ f.
+    way P (eqb (orderStatus 0x5F 0 0 (t .pending .on)) 0) (λ o. subst (λ y. P (talk t 0x5F y random)) (sym (built-part 0x5F x)) p)
+    (against (in-order (t .pending .on) off)))
+    (against (built-form 0x5F x h)))
+
+-- ---- step 5: the file byte, in the application
+pub front-passes : (x : List ℕ) (application : Bool) (n : ℕ) → 1 ≤ length x → application ≡ true → byteAt x 0 ≡ n → 1 ≤ n → n ≤ 3
+    → eqb (frontStatus 0x5F x application) 0 ≡ true
+unfolding frontStatus headerLength byteStatus fileStatus oneOf
+front-passes x application n l a e f g =
+    rw (le-ltb (length x) 1 l, a, e, le-ltb 31 n (omega arith), ne-eqb n 0 (λ z. omega arith), le-ltb 3 n g) refl

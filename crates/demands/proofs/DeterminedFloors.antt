@@ -1,0 +1,252 @@
+-- Each public function of the floors from base to state: its promise, as the source states it, determines the result and the lent room.
+use mathlib.Core.Bool.{Bool}
+use mathlib.Core.List.{List}
+use mathlib.Core.Path.{_≡_}
+use Prim.Native.Nat.{ℕ, _%_}
+use lib.Dec.{leb}
+use Rattle.base.specs.Decide.{pick}
+use Rattle.base.specs.Bytes.{byteAt, same, laid}
+use Rattle.sbox.specs.Tables.{sbox, invSbox}
+use Rattle.aes.specs.declared.Chained.{Chained}
+use Rattle.aes.specs.Block.{cipher, invCipher}
+use Rattle.aes.specs.Cbc.{cbcOut, cbcBack, Chains}
+use Rattle.aes.specs.Cmac.{cmac, evenPlaces}
+use Rattle.aes.specs.Keys.{keyExpansion}
+use Rattle.settings.specs.declared.Head.{Head}
+use Rattle.settings.specs.declared.Normalised.{Normalised}
+use Rattle.settings.specs.declared.Reading.{Reading}
+use Rattle.settings.specs.declared.Settings.{Settings}
+use Rattle.settings.specs.declared.Status.{Status}
+use Rattle.settings.specs.declared.Told.{Told}
+use Rattle.settings.specs.declared.Verdict.{Verdict}
+use Rattle.settings.specs.declared.Written.{Written}
+use Rattle.settings.specs.Fields.{readOf}
+use Rattle.settings.specs.Spans.{readingOf}
+use Rattle.settings.specs.Rules.{meets}
+use Rattle.settings.specs.Answers.{statusWord, judged, normalised, normalRoom, readAs, writtenAs, writtenRoom}
+use Rattle.messaging.specs.declared.Closed.{Closed}
+use Rattle.messaging.specs.declared.Keys.{Keys}
+use Rattle.messaging.specs.declared.Mode.{Mode}
+use Rattle.messaging.specs.declared.Opened.{Opened}
+use Rattle.messaging.specs.declared.Padded.{Padded}
+use Rattle.messaging.specs.declared.PartTwo.{PartTwo}
+use Rattle.messaging.specs.declared.Session.{Session}
+use Rattle.messaging.specs.declared.Tap.{Tap}
+use Rattle.messaging.specs.declared.Unpadded.{Unpadded}
+use Rattle.messaging.specs.Authentication.{enciphered, partTwo, firstReply, nextReply}
+use Rattle.messaging.specs.Command.{opening, Opens}
+use Rattle.messaging.specs.Crc.{crc}
+use Rattle.messaging.specs.Keys.{sessionKeys}
+use Rattle.messaging.specs.Padding.{unpad, Pads}
+use Rattle.messaging.specs.Protect.{commandIv, replyIv, mac}
+use Rattle.messaging.specs.Reply.{overlong, Closes}
+use Rattle.messaging.specs.Tap.{piccData, tapKeys, tapIv, Hides}
+use Rattle.lines.specs.declared.Decoded.{Decoded}
+use Rattle.lines.specs.Lines.{seek}
+use Rattle.lines.specs.Hex.{digitOf, charOf, isHex, decoded, decodedRoom, charsRoom}
+use Rattle.mirror.specs.declared.Laid.{Laid}
+use Rattle.mirror.specs.declared.Mirror.{Mirror}
+use Rattle.mirror.specs.Mirrors.{laidOf}
+use Rattle.state.specs.declared.Access.{Access}
+use Rattle.state.specs.declared.Birth.{Birth}
+use Rattle.state.specs.declared.Files.{Files}
+use Rattle.state.specs.declared.Grant.{Grant}
+use Rattle.state.specs.declared.Live.{Live}
+use Rattle.state.specs.declared.Pending.{Pending}
+use Rattle.state.specs.declared.Tag.{Tag}
+use Rattle.state.specs.declared.Tapping.{Tapping}
+use Rattle.state.specs.State.{startOf, sizeOf, slotOf, readingIn, keyIn, noLive, noPending, quieted, endedOf}
+use Rattle.state.specs.Access.{readGrant, writeGrant, accessFor}
+use Rattle.state.specs.Fresh.{born}
+use Rattle.state.specs.Sound.{soundTag}
+use Rattle.demands.proofs.Determined.{Determined, DeterminedIn, once, twice, chains-once, pads-once, opens-once, closes-once, hides-once}
+
+-- ---- base
+pub at-determined : (s : List ℕ) (i : ℕ) → Determined (λ (r : ℕ). r ≡ byteAt s i)
+at-determined s i = once
+
+pub alike-determined : (a b : List ℕ) → Determined (λ (r : Bool). r ≡ same a b)
+alike-determined a b = once
+
+pub put-determined : (src dst : List ℕ) (at : ℕ) → Determined (λ (new : List ℕ). new ≡ laid src at dst)
+put-determined src dst at = once
+
+-- ---- sbox
+pub forward-determined : Determined (λ (r : List ℕ). r ≡ sbox)
+forward-determined = once
+
+pub backward-determined : Determined (λ (r : List ℕ). r ≡ invSbox)
+backward-determined = once
+
+-- ---- aes
+pub expand-determined : (key : List ℕ) → Determined (λ (r : List (List ℕ)). r ≡ keyExpansion key)
+expand-determined key = once
+
+pub encrypt-determined : (w : List (List ℕ)) (s : List ℕ) → Determined (λ (r : List ℕ). r ≡ cipher w s)
+encrypt-determined w s = once
+
+pub decrypt-determined : (w : List (List ℕ)) (s : List ℕ) → Determined (λ (r : List ℕ). r ≡ invCipher w s)
+decrypt-determined w s = once
+
+pub cbc-encrypt-determined : (w : List (List ℕ)) (iv buf : List ℕ)
+    → DeterminedIn (λ (r : Chained) (new : List ℕ). Chains (cbcOut w iv) buf r new)
+cbc-encrypt-determined w iv buf = chains-once
+
+pub cbc-decrypt-determined : (w : List (List ℕ)) (iv buf : List ℕ)
+    → DeterminedIn (λ (r : Chained) (new : List ℕ). Chains (cbcBack w iv) buf r new)
+cbc-decrypt-determined w iv buf = chains-once
+
+pub cmac-of-determined : (w : List (List ℕ)) (s : List ℕ) → Determined (λ (r : List ℕ). r ≡ cmac w s)
+cmac-of-determined w s = once
+
+pub mac-of-determined : (w : List (List ℕ)) (s : List ℕ) → Determined (λ (r : List ℕ). r ≡ evenPlaces (cmac w s))
+mac-of-determined w s = once
+
+-- ---- settings
+pub status-word-determined : (s : Status) → Determined (λ (r : ℕ). r ≡ statusWord s)
+status-word-determined s = once
+
+pub judge-determined : (file : ℕ) (s : List ℕ) → Determined (λ (r : Verdict). r ≡ judged file s)
+judge-determined file s = once
+
+pub normalise-determined : (file : ℕ) (s room : List ℕ)
+    → DeterminedIn (λ (r : Normalised) (new : List ℕ). (r ≡ normalised (judged file s) s room) × (new ≡ normalRoom (judged file s) s room))
+normalise-determined file s room = twice
+
+pub meaning-determined : (s : List ℕ) → Determined (λ (r : Reading). r ≡ readingOf (readOf s))
+meaning-determined s = once
+
+pub read-determined : (file : ℕ) (s : List ℕ) → Determined (λ (r : Told). r ≡ readAs (judged file s) s)
+read-determined file s = once
+
+pub write-determined : (file : ℕ) (r : Settings) (room : List ℕ)
+    → DeterminedIn (λ (w : Written) (new : List ℕ). (w ≡ writtenAs (meets file r) r room) × (new ≡ writtenRoom (meets file r) r room))
+write-determined file r room = twice
+
+-- ---- messaging
+pub check-part-two-determined : (kx b x : List ℕ) → Determined (λ (r : PartTwo). r ≡ partTwo kx b x)
+check-part-two-determined kx b x = once
+
+pub first-reply-determined : (kx ti a cap : List ℕ) → Determined (λ (r : List ℕ). r ≡ firstReply kx ti a cap)
+first-reply-determined kx ti a cap = once
+
+pub next-reply-determined : (kx a : List ℕ) → Determined (λ (r : List ℕ). r ≡ nextReply kx a)
+next-reply-determined kx a = once
+
+pub part-one-determined : (kx b : List ℕ) → Determined (λ (r : List ℕ). r ≡ enciphered kx b)
+part-one-determined kx b = once
+
+pub open-determined : (s : Session) (m : Mode) (cmd : ℕ) (x : List ℕ) (h : ℕ) (there : Bool) (room : List ℕ)
+    → DeterminedIn (λ (r : Opened) (new : List ℕ). Opens x (opening s m cmd x h there) room r new)
+open-determined s m cmd x h there room = opens-once
+
+pub crc-of-determined : (s : List ℕ) → Determined (λ (r : List ℕ). r ≡ crc s)
+crc-of-determined s = once
+
+pub session-keys-determined : (kx a b : List ℕ) → Determined (λ (r : Keys). r ≡ sessionKeys kx a b)
+session-keys-determined kx a b = once
+
+pub pad-determined : (room : List ℕ) (n : ℕ) → DeterminedIn (λ (r : Padded) (new : List ℕ). Pads n room r new)
+pad-determined room n = pads-once
+
+pub unpad-determined : (s : List ℕ) → Determined (λ (r : Unpadded). r ≡ unpad s)
+unpad-determined s = once
+
+pub command-iv-determined : (s : Session) → Determined (λ (r : List ℕ). r ≡ commandIv s)
+command-iv-determined s = once
+
+pub reply-iv-determined : (s : Session) → Determined (λ (r : List ℕ). r ≡ replyIv s)
+reply-iv-determined s = once
+
+pub close-determined : (s : Session) (m : Mode) (code : ℕ) (room : List ℕ) (n : ℕ)
+    → DeterminedIn (λ (r : Closed) (new : List ℕ). Closes s m code n room r new)
+close-determined s m code room n = closes-once
+
+pub too-long-determined : (m : Mode) (n : ℕ) → Determined (λ (r : Bool). r ≡ overlong m n)
+too-long-determined m n = once
+
+pub picc-data-determined : (key : List ℕ) (t : Tap) (random : List ℕ) → Determined (λ (r : List ℕ). r ≡ piccData key t random)
+picc-data-determined key t random = once
+
+pub tap-encrypt-determined : (key : List ℕ) (counter : ℕ) (text : List ℕ)
+    → DeterminedIn (λ (r : Bool) (new : List ℕ). Hides key counter text r new)
+tap-encrypt-determined key counter text = hides-once
+
+pub tap-iv-determined : (key : List ℕ) (counter : ℕ) → Determined (λ (r : List ℕ). r ≡ tapIv key counter)
+tap-iv-determined key counter = once
+
+pub tap-keys-determined : (key : List ℕ) (t : Tap) → Determined (λ (r : Keys). r ≡ tapKeys key t)
+tap-keys-determined key t = once
+
+pub tap-mac-determined : (key text : List ℕ) → Determined (λ (r : List ℕ). r ≡ mac key text)
+tap-mac-determined key text = once
+
+-- ---- lines
+pub find-determined : (text : List ℕ) (at b : ℕ) → Determined (λ (r : ℕ). r ≡ seek text at b)
+find-determined text at b = once
+
+pub digit-determined : (c : ℕ) → Determined (λ (r : ℕ). r ≡ digitOf c)
+digit-determined c = once
+
+pub character-determined : (v : ℕ) → Determined (λ (r : ℕ). r ≡ charOf (v % 16))
+character-determined v = once
+
+pub is-hex-determined : (text : List ℕ) → Determined (λ (r : Bool). r ≡ isHex text)
+is-hex-determined text = once
+
+pub decode-determined : (text room : List ℕ)
+    → DeterminedIn (λ (r : Decoded) (new : List ℕ). (r ≡ decoded text room) × (new ≡ decodedRoom text room))
+decode-determined text room = twice
+
+pub encode-determined : (s room : List ℕ) → Determined (λ (new : List ℕ). new ≡ charsRoom s room)
+encode-determined s room = once
+
+-- ---- mirror
+pub lay-determined : (file : List ℕ) (r : Reading) (m : Mirror) → Determined (λ (l : Laid). l ≡ laidOf file r m)
+lay-determined file r m = once
+
+-- ---- state
+pub fresh-determined : (uid : List ℕ) → Determined (λ (r : Birth). r ≡ born uid)
+fresh-determined uid = once
+
+pub access-for-determined : (ins : ℕ) (l : Live) (h : Head) → Determined (λ (r : Access). r ≡ accessFor ins l h)
+access-for-determined ins l h = once
+
+pub read-grant-determined : (l : Live) (h : Head) → Determined (λ (r : Grant). r ≡ readGrant l h)
+read-grant-determined l h = once
+
+pub write-grant-determined : (l : Live) (h : Head) → Determined (λ (r : Grant). r ≡ writeGrant l h)
+write-grant-determined l h = once
+
+pub sound-determined : (t : Tag) → Determined (λ (r : Bool). r ≡ soundTag t)
+sound-determined t = once
+
+pub ended-determined : (tag : Tag) → Determined (λ (r : Tag). r ≡ endedOf tag)
+ended-determined tag = once
+
+pub file-size-determined : (n : ℕ) → Determined (λ (r : ℕ). r ≡ sizeOf n)
+file-size-determined n = once
+
+pub file-start-determined : (n : ℕ) → Determined (λ (r : ℕ). r ≡ startOf n)
+file-start-determined n = once
+
+pub key-of-determined : (keys : List ℕ) (k : ℕ) → Determined (λ (r : List ℕ). r ≡ keyIn keys k)
+key-of-determined keys k = once
+
+pub no-live-determined : Determined (λ (r : Live). r ≡ noLive)
+no-live-determined = once
+
+pub no-pending-determined : Determined (λ (r : Pending). r ≡ noPending)
+no-pending-determined = once
+
+pub quiet-determined : (t : Tapping) → Determined (λ (r : Tapping). r ≡ quieted t)
+quiet-determined t = once
+
+pub reading-of-determined : (f : Files) (n : ℕ) → Determined (λ (r : Reading). r ≡ readingIn f n)
+reading-of-determined f n = once
+
+pub slot-of-determined : (n : ℕ) → Determined (λ (r : ℕ). r ≡ slotOf n)
+slot-of-determined n = once
+
+pub string-len-determined : (lens : List ℕ) (i : ℕ) → Determined (λ (r : ℕ). r ≡ pick (leb (byteAt lens i) 27) (byteAt lens i) 27)
+string-len-determined lens i = once

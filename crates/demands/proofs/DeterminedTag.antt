@@ -1,0 +1,123 @@
+-- Each public function of the floors from answer to tag: its promise, as the source states it, determines the result and the lent
+-- room. An answer (Done) is determined up to the bytes behind its length. The other public function of crate tag is `fresh` of state.
+use mathlib.Core.Bool.{Bool}
+use mathlib.Core.List.{List}
+use mathlib.Core.Path.{_≡_}
+use Prim.Native.Nat.{ℕ, min}
+use lib.ListN.{take}
+use Rattle.settings.specs.declared.Reading.{Reading}
+use Rattle.messaging.specs.declared.Mode.{Mode}
+use Rattle.messaging.specs.declared.Session.{Session}
+use Rattle.state.specs.declared.Files.{Files}
+use Rattle.state.specs.declared.Live.{Live}
+use Rattle.state.specs.declared.Tag.{Tag}
+use Rattle.answer.specs.declared.Done.{Done}
+use Rattle.answer.specs.declared.Shown.{Shown}
+use Rattle.answer.specs.Answer.{Gives, given, refusal, accepted, sessionOf, afterwards}
+use Rattle.answer.specs.Filing.{stored, storedIso, tapRead, withBytes}
+use Rattle.answer.specs.Taps.{shown}
+use Rattle.auth.specs.Parts.{keyStatus, partOneFirst, partOneNext, partTwoAnswer}
+use Rattle.keyring.specs.Keyring.{changedKey, keyVersion}
+use Rattle.strings.specs.Strings.{cardUid, fileSettings, changedSettings, fileCounters}
+use Rattle.contents.specs.Contents.{readData, writtenData}
+use Rattle.selects.specs.Selects.{selected}
+use Rattle.binaries.specs.Binaries.{readBinary, updatedBinary}
+use Rattle.tag.specs.declared.Called.{Called}
+use Rattle.tag.specs.Call.{Calls}
+use Rattle.demands.proofs.Determined.{Determined, DeterminedIn, DeterminedText, once, gives-once, calls-once}
+
+-- ---- answer
+pub refuse-determined : (tag : Tag) (status : ℕ) → DeterminedText (λ (r : Done). Gives (refusal tag status) r)
+refuse-determined tag status = gives-once
+
+pub give-determined : (tag : Tag) (status : ℕ) (bytes : List ℕ) (n : ℕ)
+    → DeterminedText (λ (r : Done). Gives (given tag status (take (min n 256) bytes)) r)
+give-determined tag status bytes n = gives-once
+
+pub session-of-determined : (l : Live) → Determined (λ (r : Session). r ≡ sessionOf l)
+session-of-determined l = once
+
+pub after-determined : (tag : Tag) → Determined (λ (r : Tag). r ≡ afterwards tag)
+after-determined tag = once
+
+pub accept-determined : (tag : Tag) (m : Mode) (bytes : List ℕ) (n : ℕ)
+    → DeterminedText (λ (r : Done). Gives (accepted tag m (take (min n 256) bytes)) r)
+accept-determined tag m bytes n = gives-once
+
+pub read-stored-determined : (tag : Tag) (m : Mode) (n at count : ℕ)
+    → DeterminedText (λ (r : Done). Gives (stored tag m n at count) r)
+read-stored-determined tag m n at count = gives-once
+
+pub read-stored-iso-determined : (tag : Tag) (n at count : ℕ) → DeterminedText (λ (r : Done). Gives (storedIso tag n at count) r)
+read-stored-iso-determined tag n at count = gives-once
+
+pub read-tap-determined : (tag : Tag) (s : Shown) (accepting refusing at count : ℕ)
+    → DeterminedText (λ (r : Done). Gives (tapRead tag s accepting refusing at count) r)
+read-tap-determined tag s accepting refusing at count = gives-once
+
+pub with-bytes-determined : (f : Files) (n at : ℕ) (p : List ℕ) → Determined (λ (r : Files). r ≡ withBytes f n at p)
+with-bytes-determined f n at p = once
+
+pub show-determined : (tag : Tag) (r : Reading) (iso : Bool) (random : List ℕ)
+    → Determined (λ (s : Shown). s ≡ shown tag r iso random)
+show-determined tag r iso random = once
+
+-- ---- auth
+pub key-status-determined : (k : ℕ) → Determined (λ (r : ℕ). r ≡ keyStatus k)
+key-status-determined k = once
+
+pub first-determined : (tag : Tag) (x random : List ℕ) → DeterminedText (λ (r : Done). Gives (partOneFirst tag x random) r)
+first-determined tag x random = gives-once
+
+pub next-determined : (tag : Tag) (x random : List ℕ) → DeterminedText (λ (r : Done). Gives (partOneNext tag x random) r)
+next-determined tag x random = gives-once
+
+pub second-determined : (tag : Tag) (x random : List ℕ) → DeterminedText (λ (r : Done). Gives (partTwoAnswer tag x random) r)
+second-determined tag x random = gives-once
+
+-- ---- keyring
+pub change-key-determined : (tag : Tag) (k : ℕ) (p : List ℕ) → DeterminedText (λ (r : Done). Gives (changedKey tag k p) r)
+change-key-determined tag k p = gives-once
+
+pub key-version-determined : (tag : Tag) (k : ℕ) (m : Mode) → DeterminedText (λ (r : Done). Gives (keyVersion tag k m) r)
+key-version-determined tag k m = gives-once
+
+-- ---- strings
+pub card-uid-determined : (tag : Tag) → DeterminedText (λ (r : Done). Gives (cardUid tag) r)
+card-uid-determined tag = gives-once
+
+pub file-settings-determined : (tag : Tag) (n : ℕ) (m : Mode) → DeterminedText (λ (r : Done). Gives (fileSettings tag n m) r)
+file-settings-determined tag n m = gives-once
+
+pub change-settings-determined : (tag : Tag) (n : ℕ) (p : List ℕ) (m : Mode)
+    → DeterminedText (λ (r : Done). Gives (changedSettings tag n p m) r)
+change-settings-determined tag n p m = gives-once
+
+pub file-counters-determined : (tag : Tag) (m : Mode) → DeterminedText (λ (r : Done). Gives (fileCounters tag m) r)
+file-counters-determined tag m = gives-once
+
+-- ---- contents
+pub read-data-determined : (tag : Tag) (n : ℕ) (x : List ℕ) (m : Mode) (random : List ℕ)
+    → DeterminedText (λ (r : Done). Gives (readData tag n x m random) r)
+read-data-determined tag n x m random = gives-once
+
+pub write-data-determined : (tag : Tag) (n : ℕ) (x p : List ℕ) (m : Mode)
+    → DeterminedText (λ (r : Done). Gives (writtenData tag n x p m) r)
+write-data-determined tag n x p m = gives-once
+
+-- ---- selects
+pub select-determined : (tag : Tag) (p1 p2 : ℕ) (d : List ℕ) → DeterminedText (λ (r : Done). Gives (selected tag p1 p2 d) r)
+select-determined tag p1 p2 d = gives-once
+
+-- ---- binaries
+pub read-binary-determined : (tag : Tag) (at le : ℕ) (random : List ℕ)
+    → DeterminedText (λ (r : Done). Gives (readBinary tag at le random) r)
+read-binary-determined tag at le random = gives-once
+
+pub update-binary-determined : (tag : Tag) (at : ℕ) (d : List ℕ) → DeterminedText (λ (r : Done). Gives (updatedBinary tag at d) r)
+update-binary-determined tag at d = gives-once
+
+-- ---- tag
+pub call-determined : (tag : Tag) (command random room : List ℕ)
+    → DeterminedIn (λ (r : Called) (new : List ℕ). Calls tag command random room r new)
+call-determined tag command random room = calls-once

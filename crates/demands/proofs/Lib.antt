@@ -1,0 +1,9 @@
+pub mod Changing
+pub mod Series
+pub mod Readback
+pub mod Meaning
+pub mod Building
+pub mod Reachable
+pub mod Determined
+pub mod DeterminedFloors
+pub mod DeterminedTag

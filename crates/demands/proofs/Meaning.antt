@@ -1,0 +1,226 @@
+-- Two accepted changes behave alike exactly when their strings have one normal form.
+use mathlib.Core.Path.{_≡_, refl, sym, _∙_, ap, ap₂, subst}
+use mathlib.Core.Bool.{Bool, true, false}
+use mathlib.Core.List.{List, [], _∷_, _++_}
+use mathlib.Core.Logic.{⊎-elim}
+use Prim.Native.Nat.{ℕ, _+_, _-_, _≤_}
+use native.Mathlib.Omega.{arith}
+use lib.Dec.{eqb}
+use lib.ListN.{length, take, replicate, length-append, length-take, length-drop}
+use lib.Seq.{take-at}
+use borrow.Author.Tests.{eqb-true, le-ltb}
+use Rattle.base.specs.Decide.{pick, and}
+use Rattle.base.specs.Bytes.{byteAt, low, same}
+use Rattle.base.proofs.Bytes.{and-left, and-right}
+use Rattle.messaging.specs.declared.Mode.{Mode}
+use Rattle.messaging.specs.declared.Mode.the-variants.{Plain}
+use Rattle.messaging.specs.Protect.{content, signed, sent, macRight}
+use Rattle.messaging.specs.Command.{partRight, lengthRight, checked, opening}
+use Rattle.messaging.specs.Reply.{closed, closedLength, overlong}
+use Rattle.settings.specs.declared.Verdict.the-variants.{Good}
+use Rattle.settings.specs.Normal.{normal}
+use Rattle.settings.proofs.NormalForm.{normal-length}
+use Rattle.settings.proofs.Mirrors.{good-length}
+use Rattle.state.specs.declared.Access.the-variants.{In}
+use Rattle.state.specs.declared.Tag.{Tag}
+use Rattle.state.specs.State.{sizeOf, rulesOf, readingIn, noLive, noPending, endedOf}
+use Rattle.state.specs.Sound.{soundTag}
+use Rattle.state.specs.Access.{accessFor}
+use Rattle.answer.specs.Answer.{Answer, refusal, accepted, afterwards}
+use Rattle.strings.specs.Strings.{settingsReply, fileSettings, withRules, restrung, byVerdict}
+use Rattle.selects.specs.Selects.{moved, byName, selected}
+use Rattle.tag.specs.declared.Outcome.{Outcome}
+use Rattle.tag.specs.declared.Outcome.the-variants.{Replied}
+use Rattle.tag.specs.Wrapped.{oneOf, formRight, partOf, orderStatus, headerLength, hasData, fileStatus, byteStatus, frontStatus, own, inMode, talk, commanded, wrapped}
+use Rattle.tag.specs.InterIndustry.{isoForm, lcOf, dataOf, isoCommanded, interIndustry}
+use Rattle.tag.specs.Call.{answered, withStatus, replyOf, outcomeOf, replied, byOutcome}
+use Rattle.series.specs.Series.{Asked, step, accepting, Slots}
+use Rattle.series.specs.Worked.{selectApplication, settingsOf}
+use Rattle.series.proofs.Choices.{way}
+use Rattle.series.proofs.Fine.{Fine, fine-sound, sound-fine}
+use Rattle.series.proofs.Soundness.{fine-answered, fine-step}
+use Rattle.demands.specs.Talks.{Said, heard, said, saidAll, Alike, isChange, modeOf, stringIn, stringOfReply, telling, Exactly}
+use Rattle.demands.proofs.Changing.{Changed, accepted-change, string-sent}
+use Rattle.demands.proofs.Series.{answered-rules, which, small}
+use Rattle.demands.proofs.Readback.{string-read}
+
+-- ---- one normal form, one tag
+module _ (t : Tag) (c d : List ℕ) (a b : Answer) (h : Changed t c a) (k : Changed t d b) (file : byteAt (partOf c) 0 ≡ byteAt (partOf d) 0) where
+  one-mode : h .mode ≡ k .mode
+  one-mode =
+      let e : In (h .mode) ≡ In (k .mode) =
+      sym (h .sent .granted) ∙ ap (λ n. accessFor 0x5F (t .live) (readingIn (t .files) n .settings .head)) file ∙ k .sent .granted in
+      ap modeOf e
+
+  one-answer : normal (h .text) ≡ normal (k .text) → a ≡ b
+  one-answer e =
+      let l : length (h .text) ≡ length (k .text) = sym (normal-length (h .text)) ∙ ap length e ∙ normal-length (k .text) in
+      h .is
+      ∙ ap₂ (λ n m. byVerdict t n (h .text) m Good) file one-mode
+      ∙ ap₂ (λ (s : List ℕ) (i : ℕ). accepted (restrung t (withRules (t .files) (byteAt (partOf d) 0) (s ++ replicate (27 - i) 0) i) (byteAt (partOf d) 0)) (k .mode) []) e l
+      ∙ sym (k .is)
+
+alike-same : (t u : Tag) → t ≡ u → Alike t u
+unfolding Alike
+alike-same t u e asked = ap (λ v. saidAll v asked) e
+
+-- ---- the series that tells: what it is answered
+-- selecting the application is answered by every tag with no part two pending
+select-moves : (u : Tag) (random : List ℕ) → u .pending .on ≡ false → answered u selectApplication random ≡ moved u true
+unfolding answered interIndustry isoForm isoCommanded selectApplication oneOf selected byName dataOf lcOf same
+select-moves u random e =
+    ap (λ (p : Bool). pick p (refusal u 0x6985) (moved u true)) e
+
+-- GetFileSettings is answered by every tag in the application, with no session and no part two pending
+abbrev answers-settings : Tag → ℕ → List ℕ → Type 0
+answers-settings u n random =
+    answered (moved u true .tag) (settingsOf n) random ≡ accepted (moved u true .tag) Plain (settingsReply (rulesOf (u .files) n) (sizeOf n))
+
+tells-1 : (u : Tag) (random : List ℕ) → answers-settings u 1 random
+unfolding answered wrapped formRight partOf settingsOf oneOf orderStatus commanded talk frontStatus headerLength byteStatus fileStatus moved noLive noPending accessFor inMode hasData opening lengthRight partRight checked macRight content own fileSettings
+tells-1 u random = refl
+
+tells-2 : (u : Tag) (random : List ℕ) → answers-settings u 2 random
+unfolding answered wrapped formRight partOf settingsOf oneOf orderStatus commanded talk frontStatus headerLength byteStatus fileStatus moved noLive noPending accessFor inMode hasData opening lengthRight partRight checked macRight content own fileSettings
+tells-2 u random = refl
+
+tells-3 : (u : Tag) (random : List ℕ) → answers-settings u 3 random
+unfolding answered wrapped formRight partOf settingsOf oneOf orderStatus commanded talk frontStatus headerLength byteStatus fileStatus moved noLive noPending accessFor inMode hasData opening lengthRight partRight checked macRight content own fileSettings
+tells-3 u random = refl
+
+tells : (u : Tag) (random : List ℕ) (n : ℕ) → 1 ≤ n → n ≤ 3 → answers-settings u n random
+tells u random n a b =
+    ⊎-elim (λ e. subst (λ i. answers-settings u i random) (sym e) (tells-1 u random))
+    (⊎-elim (λ e. subst (λ i. answers-settings u i random) (sym e) (tells-2 u random)) (λ e. subst (λ i. answers-settings u i random) (sym e) (tells-3 u random)))
+    (which n a b)
+
+-- a reply in Plain, under 256 bytes
+plain-reply : (u : Tag) (d : List ℕ) → length d ≤ 256 → replyOf (accepted u Plain d) ≡ d ++ 0x91 ∷ 0x00 ∷ []
+unfolding replyOf withStatus accepted overlong closedLength closed signed sent
+plain-reply u d h = rw (le-ltb 256 (length d) h) refl
+
+-- ---- two replies that are equal hold one string
+same-front : (x y z : List ℕ) → x ++ z ≡ y ++ z → x ≡ y
+same-front x y z e =
+    let a : length (x ++ z) ≡ length x + length z = length-append x z in
+    let b : length (y ++ z) ≡ length y + length z = length-append y z in
+    let c : length (x ++ z) ≡ length (y ++ z) = ap length e in
+    let l : length y ≡ length x = omega arith in
+    sym (take-at x z (length x) refl) ∙ ap (take (length x)) e ∙ take-at y z (length x) l
+
+reply-short : (s : List ℕ) (size : ℕ) → length s ≤ 27 → length (settingsReply s size) ≤ 256
+unfolding settingsReply low
+reply-short s size h = simp (length-append, length-take, length-drop) (omega arith)
+
+-- ---- a sound tag with no part two pending answers the series
+abbrev zeros20 : List ℕ
+zeros20 = replicate 20 0
+
+abbrev zeros258 : List ℕ
+zeros258 = replicate 258 0
+
+replied-outcome : (u : Tag) → soundTag u ≡ true → outcomeOf u zeros20 zeros258 ≡ Replied
+unfolding outcomeOf
+replied-outcome u e = rw e refl
+
+abbrev asking : List ℕ → Asked
+asking c = record { command = c; random = zeros20; room = zeros258 }
+
+step-moves : (u : Tag) → soundTag u ≡ true → u .pending .on ≡ false → step u (asking selectApplication) ≡ moved u true .tag
+unfolding step replied
+step-moves u e p = ap₂ (λ (a : Answer) (o : Outcome). byOutcome u a o .tag) (select-moves u zeros20 p) (replied-outcome u e)
+
+second : List Said → List ℕ
+second [] = []
+second (x ∷ []) = []
+second (x ∷ y ∷ more) = y .reply
+
+second-heard : (u : Tag) → Fine u → u .pending .on ≡ false → (n : ℕ) → 1 ≤ n → n ≤ 3 → length (rulesOf (u .files) n) ≤ 27
+    → second (saidAll u (telling n)) ≡ settingsReply (rulesOf (u .files) n) (sizeOf n) ++ 0x91 ∷ 0x00 ∷ []
+unfolding second saidAll telling said
+second-heard u f p n a b l =
+    let v = step u (asking selectApplication) in
+    let d = settingsReply (rulesOf (u .files) n) (sizeOf n) in
+    ap (λ o. heard (answered v (settingsOf n) zeros20) o) (replied-outcome v (fine-sound v (fine-step u f (asking selectApplication))))
+    ∙ ap (λ w. replyOf (answered w (settingsOf n) zeros20)) (step-moves u (fine-sound u f) p)
+    ∙ ap replyOf (tells u zeros20 n a b)
+    ∙ plain-reply (moved u true .tag) d (reply-short (rulesOf (u .files) n) (sizeOf n) l)
+
+-- ---- what a change leaves
+still-idle : (u : Tag) (m : Mode) → u .pending .on ≡ false → accepted u m [] .tag .pending .on ≡ false
+unfolding accepted refusal endedOf noPending afterwards
+still-idle u m e = way (λ (a : Answer). a .tag .pending .on ≡ false) (overlong m 0) (λ z. refl) (λ z. e)
+
+idle-after : (t : Tag) (c : List ℕ) (a : Answer) → Changed t c a → a .tag .pending .on ≡ false
+unfolding restrung
+idle-after t c a h =
+    let n = byteAt (partOf c) 0 in
+    let p = h .text in
+    ap (λ (x : Answer). x .tag .pending .on) (h .is)
+    ∙ still-idle (restrung t (withRules (t .files) n (normal p ++ replicate (27 - length p) 0) (length p)) n) (h .mode) (h .idle)
+
+module _ (t : Tag) (f : Fine t) (n : ℕ) (a : 1 ≤ n) (b : n ≤ 3) (c random : List ℕ) (change : isChange c n ≡ true) (fair : accepting (answered t c random .status) ≡ true) where
+  next : Tag
+  next = answered t c random .tag
+
+  is-changed : Changed t c (answered t c random)
+  unfolding isChange
+  is-changed =
+      accepted-change t c random (eqb-true (byteAt c 0) 0x90 (and-left _ _ change))
+      (eqb-true (byteAt c 1) 0x5F (and-left _ _ (and-right (eqb (byteAt c 0) 0x90) _ change))) fair
+
+  file-is : byteAt (partOf c) 0 ≡ n
+  unfolding isChange
+  file-is =
+      eqb-true (byteAt (partOf c) 0) n (and-right (eqb (byteAt c 1) 0x5F) _ (and-right (eqb (byteAt c 0) 0x90) _ change))
+
+  string-is : stringIn t c ≡ is-changed .text
+  string-is = string-sent t c (is-changed .text) (is-changed .mode) (is-changed .sent)
+
+  holds : rulesOf (next .files) n ≡ normal (stringIn t c)
+  unfolding next
+  holds =
+      answered-rules t (f .calm .slots) c random n (small n a b)
+      ∙ ap₂ (λ x y. pick (and x y) (normal (stringIn t c)) (rulesOf (t .files) n)) change fair
+
+  short : length (rulesOf (next .files) n) ≤ 27
+  short =
+      let l : length (is-changed .text) ≤ 27 = good-length (byteAt (partOf c) 0) (is-changed .text) (is-changed .good) .1 in
+      subst (λ k. k ≤ 27) (sym (ap length (holds ∙ ap normal string-is) ∙ normal-length (is-changed .text))) l
+
+  long : 3 ≤ length (normal (stringIn t c))
+  long =
+      let l : 3 ≤ length (is-changed .text) = good-length (byteAt (partOf c) 0) (is-changed .text) (is-changed .good) .0 in
+      subst (λ k. 3 ≤ k) (sym (ap length (ap normal string-is) ∙ normal-length (is-changed .text))) l
+
+  told : second (saidAll next (telling n)) ≡ settingsReply (normal (stringIn t c)) (sizeOf n) ++ 0x91 ∷ 0x00 ∷ []
+  unfolding next
+  told =
+      second-heard (answered t c random .tag) (fine-answered t f c random) (idle-after t c (answered t c random) is-changed) n a b short
+      ∙ ap (λ s. settingsReply s (sizeOf n) ++ 0x91 ∷ 0x00 ∷ []) holds
+
+-- For any sound tag, file and two ChangeFileSettings commands that this tag accepts, given the same random bytes: the two resulting
+-- tags give the same replies to every later series of commands exactly when the two strings have one normal form.
+pub alike-exactly : (t : Tag) → Slots t → soundTag t ≡ true → (n : ℕ) → 1 ≤ n → n ≤ 3 → (c d random : List ℕ) → isChange c n ≡ true
+    → isChange d n ≡ true → accepting (answered t c random .status) ≡ true → accepting (answered t d random .status) ≡ true
+    → Exactly t c d random
+unfolding Alike next
+alike-exactly t s e n a b c d random p q x y =
+    let f = sound-fine t s e in
+    let h = is-changed t f n a b c random p x in
+    let k = is-changed t f n a b d random q y in
+    record {
+      alike =
+          λ o.
+          alike-same (answered t c random .tag) (answered t d random .tag)
+          (ap (λ (z : Answer). z .tag)
+          (one-answer t c d (answered t c random) (answered t d random) h k (file-is t f n a b c random p x ∙ sym (file-is t f n a b d random q y))
+          (sym (ap normal (string-is t f n a b c random p x)) ∙ o ∙ ap normal (string-is t f n a b d random q y))));
+      one-form =
+          λ l.
+          let r = sym (told t f n a b c random p x) ∙ ap second (l (telling n)) ∙ told t f n a b d random q y in
+          let w = same-front (settingsReply (normal (stringIn t c)) (sizeOf n)) (settingsReply (normal (stringIn t d)) (sizeOf n)) (0x91 ∷ 0x00 ∷ []) r in
+          sym (string-read (normal (stringIn t c)) (sizeOf n) (long t f n a b c random p x))
+          ∙ ap stringOfReply w
+          ∙ string-read (normal (stringIn t d)) (sizeOf n) (long t f n a b d random q y);
+    }

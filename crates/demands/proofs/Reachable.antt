@@ -1,0 +1,283 @@
+-- Demand 3, over the tag: every settings record that meets 01's rules has one normal string, and every sound tag in the
+-- application, no part two pending, that grants the change, with a command counter below 65,535 (or no session), accepts it in the
+-- due mode: plain under E, wrapped with the session's keys under the key; the reply is 9100, with its MAC in Full, and the file
+-- then holds that string.
+use mathlib.Core.Path.{_≡_, refl, sym, _∙_, ap, subst}
+use mathlib.Core.Bool.{Bool, true, false}
+use mathlib.Core.List.{List, [], _∷_, _++_}
+use mathlib.Core.Logic.{_⊎_, inl, inr, ⊎-elim}
+use Prim.Native.Nat.{ℕ, suc, _+_, _≤_, _<_}
+use native.Mathlib.Omega.{arith}
+use lib.Dec.{eqb, ltb}
+use lib.ListN.{length, replicate}
+use borrow.Author.Tests.{eqb-true, eq-eqb, ne-eqb, lt-ltb, le-ltb}
+use Rattle.base.specs.Decide.{pick, and, or}
+use Rattle.base.specs.Bytes.{byteAt, AllBytes, same, over}
+use Rattle.base.proofs.Bytes.{and-right}
+use Rattle.aes.specs.Block.{IsBlock}
+use Rattle.messaging.specs.declared.Mode.{Mode}
+use Rattle.messaging.specs.declared.Mode.the-variants.{Plain, Mac, Full}
+use Rattle.messaging.specs.declared.Session.{Session}
+use Rattle.messaging.specs.Protect.{messageMac, sent, signed, plain}
+use Rattle.messaging.specs.Command.{wrapped, opening}
+use Rattle.messaging.specs.Reply.{closed, overlong}
+use Rattle.messaging.proofs.Wrapping.{wrapped-opens}
+use Rattle.settings.specs.declared.Head.{Head}
+use Rattle.settings.specs.declared.Settings.{Settings}
+use Rattle.settings.specs.declared.Verdict.the-variants.{Good}
+use Rattle.settings.specs.Answers.{verdictOf, judged}
+use Rattle.settings.specs.Fields.{sdmOn, sdmByte, modeOf, headOf, present, ends, sizeOf, readOf, stringOf}
+use Rattle.settings.specs.Rules.{found, optionBits, sdmFile, condition, rights, rules, meets}
+use Rattle.settings.specs.Normal.{plainMode, freeBits, normal}
+use Rattle.settings.specs.Spans.{readingOf}
+use Rattle.settings.proofs.Mirrors.{good-length}
+use Rattle.settings.proofs.OneMeaning.{one-string, string-bytes}
+use Rattle.state.specs.declared.Access.{Access}
+use Rattle.state.specs.declared.Access.the-variants.{In, Never as NeverIn, Denied as DeniedIn}
+use Rattle.state.specs.declared.Grant.the-variants.{ByKey, ByTap, Free, Never, Denied}
+use Rattle.state.specs.declared.Live.{Live}
+use Rattle.state.specs.declared.Tag.{Tag}
+use Rattle.state.specs.State.{slotOf, rulesOf, readingIn, noPending}
+use Rattle.state.specs.Fresh.{rightUid}
+use Rattle.state.specs.Access.{granted, changeGrant, inMode as accessIn, accessFor}
+use Rattle.state.specs.Sound.{rulesSound, keysSound, aloneSound, levelSound, soundTag}
+use Rattle.answer.specs.Answer.{Answer, given, accepted, afterwards, raised, sessionOf}
+use Rattle.strings.specs.Strings.{restrung, byVerdict, changedSettings}
+use Rattle.tag.specs.declared.Outcome.the-variants.{Replied}
+use Rattle.tag.specs.Wrapped.{oneOf, headerLength, hasData, frontStatus, own, onOpening, inMode, onAccess, talk}
+use Rattle.tag.specs.Call.{answered, withStatus, replyOf, outcomeOf, replied, byOutcome, roomBy}
+use Rattle.series.specs.Series.{step}
+use Rattle.series.proofs.Choices.{not-both, way}
+use Rattle.series.proofs.Settled.{padOut, restored}
+use Rattle.series.proofs.Soundness.{sound-call}
+use Rattle.series.proofs.Changes.{short-none}
+use Rattle.demands.specs.Reaching.{built, changeOf, carried, changing, asking, changed, Ready, UnderE, UnderKey, Reached}
+use Rattle.demands.proofs.Series.{small}
+use Rattle.demands.proofs.Building.{against, pad-bytes, wrapped-bound, wrapped-first, wrapped-filled, built-talks, front-passes}
+
+-- ---- the due mode
+abbrev modeIn : Access → Mode
+modeIn (In m) = m
+modeIn NeverIn = Mac
+modeIn DeniedIn = Mac
+
+abbrev isIn : Access → Bool
+isIn (In m) = true
+isIn NeverIn = false
+isIn DeniedIn = false
+
+record KeyGrants (live : Bool) (key change : ℕ) (m : Mode) : Type 0 where
+  on : live ≡ true
+  right : change ≡ key
+  mode : m ≡ Full
+
+record EGrants (change : ℕ) (m : Mode) : Type 0 where
+  right : change ≡ 14
+  mode : m ≡ Plain
+
+by-grant : (live : Bool) (key change : ℕ) (m : Mode) (k e f : Bool) → eqb change key ≡ k → eqb change 14 ≡ e
+    → accessIn (pick (and live (or k k)) ByKey (pick (and (pick live false true) false) ByTap (pick (or e e) Free (pick (and f (and f true)) Never Denied)))) Full ≡ In m
+    → KeyGrants live key change m ⊎ EGrants change m
+by-grant true key change m true e f p q a = inl (record { on = refl; right = eqb-true change key p; mode = sym (ap modeIn a) })
+by-grant true key change m false true f p q a = inr (record { right = eqb-true change 14 q; mode = sym (ap modeIn a) })
+by-grant true key change m false false true p q a = absurd (not-both (ap isIn a))
+by-grant true key change m false false false p q a = absurd (not-both (ap isIn a))
+by-grant false key change m k true f p q a = inr (record { right = eqb-true change 14 q; mode = sym (ap modeIn a) })
+by-grant false key change m k false true p q a = absurd (not-both (ap isIn a))
+by-grant false key change m k false false p q a = absurd (not-both (ap isIn a))
+
+change-due : (l : Live) (h : Head) (m : Mode) → accessFor 0x5F l h ≡ In m → KeyGrants (l .on) (l .key) (h .change) m ⊎ EGrants (h .change) m
+unfolding accessFor changeGrant granted
+change-due l h m e =
+    by-grant (l .on) (l .key) (h .change) m (eqb (h .change) (l .key)) (eqb (h .change) 14) (eqb (h .change) 15) refl refl e
+
+-- ---- the steps behind the form
+not-full : (live : Bool) (counter : ℕ) → (live ≡ true → counter < 65535) → and live (eqb counter 65535) ≡ false
+not-full true counter h = let l = h refl in ne-eqb counter 65535 (λ z. omega arith)
+not-full false counter h = refl
+
+raised-one : (l : Live) → l .on ≡ true → l .counter < 65535 → raised l .counter ≡ l .counter + 1
+unfolding raised
+raised-one l e h = by (l .on) (ltb (l .counter) 65535) e (lt-ltb (l .counter) 65535 h)
+  where
+    by : (on below : Bool) → on ≡ true → below ≡ true → pick on (pick below (l .counter + 1) (l .counter)) (l .counter) ≡ l .counter + 1
+    by on below p q = rw (p, q) refl
+
+-- what is sent has the file byte in front, at most 255 bytes, and opens to the string
+module _ (t : Tag) (n : ℕ) (m : Mode) (s : List ℕ) where
+  carried-first : byteAt (carried t m n s) 0 ≡ n
+  unfolding carried
+  carried-first = wrapped-first (sessionOf (t .live)) m _ n s
+
+  carried-filled : 1 ≤ length (carried t m n s)
+  unfolding carried
+  carried-filled = wrapped-filled (sessionOf (t .live)) m _ n s
+
+  module _ (k : IsBlock (t .live .enc)) (b : AllBytes s) where
+    carried-short : judged n s ≡ Good → length (carried t m n s) ≤ 255
+    unfolding carried sessionOf
+    carried-short g =
+        let l : length (carried t m n s) ≤ length (n ∷ []) + length s + 24 = wrapped-bound (sessionOf (t .live)) m _ (n ∷ []) s k b in
+        omega (arith, good-length n s g .1)
+
+    carried-opens : opening (sessionOf (t .live)) m 0x5F (carried t m n s) 1 true ≡ plain s
+    unfolding carried sessionOf
+    carried-opens = wrapped-opens (sessionOf (t .live)) m 0x5F (n ∷ []) true s k b (λ z. absurd (not-both (sym z)))
+
+module _ (t : Tag) (n : ℕ) (m : Mode) (s : List ℕ) (random : List ℕ) (P : Answer → Type 0) where
+  -- step 9: a good string is stored
+  own-accepts : judged n s ≡ Good → (x : List ℕ) → byteAt x 0 ≡ n
+      → P (given (changed t n s) 0x9100 (closed (sessionOf (raised (t .live))) m 0 [])) → P (own t 0x5F x s m random)
+  unfolding own changedSettings accepted changed restrung padOut
+  own-accepts g x e p =
+      subst (λ k. P (changedSettings t k s m)) (sym e)
+      (subst (λ v. P (byVerdict t n s m v)) (sym g) (way P (overlong m 0) (λ z. against z (short-none m)) (λ z. p)))
+
+  -- steps 5 to 8: the front, access, CmdCtr, and the message, which opens to the string
+  talk-owns : (x : List ℕ) → Ready t n m → 1 ≤ length x → byteAt x 0 ≡ n → opening (sessionOf (t .live)) m 0x5F x 1 true ≡ plain s
+      → P (own t 0x5F x s m random) → P (talk t 0x5F x random)
+  unfolding talk inMode headerLength hasData oneOf
+  talk-owns x h l e o p =
+      way P (eqb (frontStatus 0x5F x (t .place .application)) 0)
+      (λ f.
+      subst (λ a. P (onAccess t 0x5F x random a))
+      (sym (ap (λ k. accessFor 0x5F (t .live) (readingIn (t .files) k .settings .head)) e ∙ h .grants))
+      (way P (and (t .live .on) (eqb (t .live .counter) 65535)) (λ z. against z (not-full (t .live .on) (t .live .counter) (h .counter)))
+      (λ z. subst (λ a. P (onOpening t 0x5F x m random a)) (sym o) p)))
+      (against (front-passes x (t .place .application) n l (h .application) e (h .first) (h .last)))
+
+-- ---- the theorem
+module _ (t : Tag) (n : ℕ) (r : Settings) (m : Mode) (h : Ready t n m) (e : meets n r ≡ true) (random : List ℕ) where
+  reach : answered t (changing t m n (stringOf r)) random ≡ given (changed t n (stringOf r)) 0x9100 (closed (sessionOf (raised (t .live))) m 0 [])
+  unfolding changing
+  reach =
+      let s = stringOf r in
+      let g = one-string n r e .good in
+      let x = carried t m n s in
+      let b = string-bytes n r e in
+      let P : Answer → Type 0 = λ a. a ≡ given (changed t n s) 0x9100 (closed (sessionOf (raised (t .live))) m 0 []) in
+      built-talks t x random P (carried-filled t n m s) (carried-short t n m s (h .enc) b g) (h .idle)
+      (talk-owns t n m s random P x h (carried-filled t n m s) (carried-first t n m s) (carried-opens t n m s (h .enc) b)
+      (own-accepts t n m s random P g x (carried-first t n m s) refl))
+
+  kept : rulesOf (changed t n (stringOf r) .files) n ≡ stringOf r
+  unfolding changed afterwards restrung padOut
+  kept =
+      let o = one-string n r e in
+      restored (t .files) (h .slots .rules) (h .slots .lens) n (stringOf r) (o .good) n refl (small n (h .first) (h .last)) ∙ o .own
+
+  reply-plain : (s : Session) (u : Tag) → replyOf (given u 0x9100 (closed s Plain 0 [])) ≡ 0x91 ∷ 0x00 ∷ []
+  unfolding replyOf withStatus closed signed sent
+  reply-plain s u = refl
+
+  reply-full : (s : Session) (u : Tag) → replyOf (given u 0x9100 (closed s Full 0 [])) ≡ messageMac s 0 [] ++ 0x91 ∷ 0x00 ∷ []
+  unfolding replyOf withStatus closed signed sent
+  reply-full s u = refl
+
+  plain-command : changing t Plain n (stringOf r) ≡ 0x90 ∷ 0x5F ∷ 0 ∷ 0 ∷ (1 + length (stringOf r)) ∷ n ∷ (stringOf r ++ 0 ∷ [])
+  unfolding changing carried built wrapped signed sent
+  plain-command =
+      let k : suc (length (stringOf r)) ≡ 1 + length (stringOf r) = omega arith in
+      ap (λ l. 0x90 ∷ 0x5F ∷ 0 ∷ 0 ∷ l ∷ n ∷ (stringOf r ++ 0 ∷ [])) k
+
+  full-command : changing t Full n (stringOf r) ≡ built 0x5F (wrapped (sessionOf (t .live)) Full 0x5F (n ∷ []) true (stringOf r))
+  unfolding changing carried
+  full-command = refl
+
+  reply-in : (k : Mode) → m ≡ k
+      → replyOf (answered t (changing t m n (stringOf r)) random) ≡ replyOf (given (changed t n (stringOf r)) 0x9100 (closed (sessionOf (raised (t .live))) k 0 []))
+  reply-in k q =
+      ap replyOf reach ∙ ap (λ j. replyOf (given (changed t n (stringOf r)) 0x9100 (closed (sessionOf (raised (t .live))) j 0 []))) q
+
+  in-due : UnderKey t n (stringOf r) m random ⊎ UnderE t n (stringOf r) m random
+  unfolding changeOf
+  in-due =
+      ⊎-elim
+      (λ g.
+      inl
+      (record {
+        live = g .on;
+        right = g .right;
+        mode = g .mode;
+        command = ap (λ k. changing t k n (stringOf r)) (g .mode) ∙ full-command;
+        counted = raised-one (t .live) (g .on) (h .counter (g .on));
+        reply = reply-in Full (g .mode) ∙ reply-full (sessionOf (raised (t .live))) (changed t n (stringOf r));
+      }))
+      (λ g.
+      inr
+      (record {
+        right = g .right;
+        mode = g .mode;
+        command = ap (λ k. changing t k n (stringOf r)) (g .mode) ∙ plain-command;
+        reply = reply-in Plain (g .mode) ∙ reply-plain (sessionOf (raised (t .live))) (changed t n (stringOf r));
+      }))
+      (change-due (t .live) (readingIn (t .files) n .settings .head) m (h .grants))
+
+  module _ (room : List ℕ) (twenty : length random ≡ 20) (large : 258 ≤ length room) where
+    replies : outcomeOf t random room ≡ Replied
+    unfolding outcomeOf
+    replies = rw (le-ltb (length room) 258 large, eq-eqb (length random) 20 twenty, h .sound) refl
+
+    stepped : step t (asking t n r m random room) ≡ changed t n (stringOf r)
+    unfolding step replied
+    stepped = ap (λ o. byOutcome t (answered t (changing t m n (stringOf r)) random) o .tag) replies ∙ ap (λ a. a .tag) reach
+
+    held : rulesOf (step t (asking t n r m random room) .files) n ≡ stringOf r
+    held = ap (λ u. rulesOf (u .files) n) stepped ∙ kept
+
+    pub reachable : Reached t n r m random room
+    reachable =
+        let o = one-string n r e in
+        record {
+          string = o;
+          answers = replies;
+          accepts = reach;
+          room-holds = ap (λ o. roomBy (answered t (changing t m n (stringOf r)) random) room o) replies;
+          due = in-due;
+          holds = held;
+          means = ap readOf held ∙ o .reads;
+          sound = sound-call t (h .slots) (h .sound) (asking t n r m random room);
+        }
+
+-- ---- such tags are: of any UID, in the application, file 2 with Change 0 in session with key 0, or with Change E and no session
+-- (rights: ReadWrite and Change of file 2)
+unfoldable pub sample : List ℕ → Bool → ℕ → Tag
+sample uid live rights =
+    record {
+      uid = uid;
+      files =
+          record {
+            bytes = replicate 416 0;
+            rules = 0 ∷ 0xE0 ∷ 0xEE ∷ replicate 24 0 ++ 0 ∷ rights ∷ 0xEE ∷ replicate 24 0 ++ 0 ∷ 0xE0 ∷ 0xEE ∷ replicate 24 0;
+            lens = 3 ∷ 3 ∷ 3 ∷ [];
+          };
+      secrets = record { keys = replicate 80 0; versions = replicate 5 0 };
+      live = record { on = live; key = 0; enc = replicate 16 0; mac = replicate 16 0; ti = replicate 4 0; counter = 0 };
+      pending = noPending;
+      place = record { application = true; file = 0 };
+      tap = record { on = false; iso = false; counter = 0 };
+    }
+
+module _ (uid : List ℕ) (u : rightUid uid ≡ true) where
+  sample-ready : (live : Bool) (rights : ℕ) (m : Mode) → soundTag (sample uid live rights) ≡ true
+      → accessFor 0x5F (sample uid live rights .live) (readingIn (sample uid live rights .files) 2 .settings .head) ≡ In m
+      → Ready (sample uid live rights) 2 m
+  unfolding sample noPending AllBytes
+  sample-ready live rights m s a =
+      record {
+        slots = record { rules = refl; lens = refl };
+        enc = record { len = refl; bytes = λ i. pad-bytes 16 (suc i) };
+        sound = s;
+        application = refl;
+        idle = refl;
+        first = omega arith;
+        last = omega arith;
+        grants = a;
+        counter = λ z. omega arith;
+      }
+
+  pub ready-samples : Ready (sample uid true 0xE0) 2 Full × Ready (sample uid false 0xEE) 2 Plain
+  unfolding sample rightUid soundTag rulesSound keysSound aloneSound levelSound slotOf rulesOf readingIn noPending judged verdictOf rules found optionBits sdmFile condition rights sdmOn sdmByte modeOf headOf present ends sizeOf readOf readingOf plainMode freeBits normal same accessFor changeGrant granted
+  ready-samples =
+      let four = and-right (eqb (length uid) 7) (eqb (byteAt uid 0) 4) u in
+      (sample-ready true 0xE0 Full (rw four refl) refl, sample-ready false 0xEE Plain (rw four refl) refl)

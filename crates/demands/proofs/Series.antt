@@ -1,0 +1,194 @@
+-- What a series leaves: each file holds the normal form of the last change accepted for it.
+use mathlib.Core.Path.{_≡_, refl, sym, _∙_, ap, subst}
+use mathlib.Core.Bool.{Bool, true, false}
+use mathlib.Core.List.{List, [], _∷_}
+use mathlib.Core.Logic.{_⊎_, inl, inr, ⊎-elim}
+use Prim.Native.Nat.{ℕ, _≤_}
+use native.Mathlib.Omega.{arith}
+use lib.Dec.{eqb}
+use lib.ListN.{length}
+use borrow.Author.Tests.{eqb-true, eq-eqb}
+use Rattle.base.specs.Decide.{pick, and}
+use Rattle.base.specs.Bytes.{byteAt}
+use Rattle.base.proofs.Bytes.{le-or-lt}
+use Rattle.messaging.specs.declared.Mode.{Mode}
+use Rattle.messaging.specs.Reply.{overlong}
+use Rattle.settings.specs.Normal.{normal}
+use Rattle.state.specs.declared.Files.{Files}
+use Rattle.state.specs.declared.Tag.{Tag}
+use Rattle.state.specs.State.{slotOf, rulesOf, readingIn, endedOf}
+use Rattle.state.specs.Fresh.{deliveredFiles, freshTag, rightUid}
+use Rattle.answer.specs.Answer.{Answer, refusal, accepted, afterwards}
+use Rattle.answer.specs.Taps.{shown}
+use Rattle.answer.specs.Filing.{storedIso, tapped, tapRead, withBytes, filed}
+use Rattle.auth.specs.Parts.{talking, begun, enteredFirst, enteredNext, entered}
+use Rattle.keyring.specs.Keyring.{keyed}
+use Rattle.strings.specs.Strings.{withRules, restrung}
+use Rattle.selects.specs.Selects.{moved, selectedFile}
+use Rattle.tag.specs.declared.Outcome.{Outcome}
+use Rattle.tag.specs.declared.Outcome.the-variants.{Replied, SmallRoom, WrongRandom, Unsound}
+use Rattle.tag.specs.Wrapped.{partOf}
+use Rattle.tag.specs.Call.{answered, outcomeOf, replied, unanswered, byOutcome}
+use Rattle.series.specs.Series.{Asked, step, after, accepting, Slots}
+use Rattle.series.proofs.Choices.{not-both, way}
+use Rattle.series.proofs.Walk.{Sent, Kinds, every-answer}
+use Rattle.series.proofs.Places.{slot-other, same-slot}
+use Rattle.series.proofs.Fine.{Fine, sound-fine}
+use Rattle.series.proofs.Settled.{padOut, restored, whole}
+use Rattle.series.proofs.Soundness.{fine-step}
+use Rattle.series.proofs.Born.{fresh-slots, fresh-sound}
+use Rattle.series.proofs.Changes.{changed-accepted}
+use Rattle.demands.specs.Talks.{isChange, stringIn, replies, changes, lastChange, delivered}
+use Rattle.demands.proofs.Changing.{Changed, accepted-change, string-sent}
+
+-- ---- a command that is no change leaves every string
+abbrev Keeps : Tag → ℕ → Answer → Type 0
+Keeps t n a = rulesOf (a .tag .files) n ≡ rulesOf (t .files) n
+
+keeps-accepted : (t u : Tag) (n : ℕ) → rulesOf (u .files) n ≡ rulesOf (t .files) n → (m : Mode) (d : List ℕ) → Keeps t n (accepted u m d)
+unfolding accepted refusal endedOf afterwards
+keeps-accepted t u n e m d = way (Keeps t n) (overlong m (length d)) (λ z. e) (λ z. e)
+
+keeps-kinds : (t : Tag) (c random : List ℕ) (n : ℕ) → and (eqb (byteAt c 0) 0x90) (eqb (byteAt c 1) 0x5F) ≡ false → Kinds t c random (Keeps t n)
+unfolding refusal endedOf begun entered enteredFirst enteredNext talking keyed afterwards filed withBytes tapRead tapped storedIso moved selectedFile rulesOf
+keeps-kinds t c random n other =
+    record {
+      refuses = λ s. refl;
+      begins = λ p k a. refl;
+      enters = λ p kx a. way (Keeps t n) (t .pending .first) (λ e. refl) (λ e. refl);
+      answers = λ m d. keeps-accepted t t n refl m d;
+      rekeys = λ s. keeps-accepted t (keyed t s) n refl _ [];
+      rekeys-first = λ s. refl;
+      writes = λ m at p mode. keeps-accepted t (filed t (withBytes (t .files) m at p)) n refl mode [];
+      writes-iso = λ m at p. refl;
+      restrings = λ m p mode s g. absurd (not-both (sym other ∙ sent s));
+      taps =
+          λ m iso status refusing at count e s l p f.
+          way (Keeps t n) (eqb (shown t (readingIn (t .files) m) iso random .status) 0) (λ z. refl) (λ z. refl);
+      reads-iso = λ m at count. refl;
+      moves = λ application. refl;
+      selects = λ m h. way (Keeps t n) (t .place .application) (λ e. refl) (λ e. refl);
+    }
+  where
+    sent : {m : ℕ} {p : List ℕ} {mode : Mode} → Sent t c m p mode → and (eqb (byteAt c 0) 0x90) (eqb (byteAt c 1) 0x5F) ≡ true
+    sent s = rw (s .class, s .command) refl
+
+-- ---- an accepted change puts its normal form, and leaves the other files' strings
+changed-rules : (t : Tag) (f : Files) (m : ℕ) (mode : Mode) → rulesOf (accepted (restrung t f m) mode [] .tag .files) ≡ rulesOf f
+unfolding accepted refusal endedOf afterwards restrung
+changed-rules t f m mode = way (λ (a : Answer). rulesOf (a .tag .files) ≡ rulesOf f) (overlong mode 0) (λ z. refl) (λ z. refl)
+
+module _ (t : Tag) (slots : Slots t) (c random : List ℕ) (n : ℕ) (small : slotOf n ≤ 2) where
+  put : (a : Answer) → Changed t c a
+      → rulesOf (a .tag .files) n ≡ pick (eqb (byteAt (partOf c) 0) n) (normal (stringIn t c)) (rulesOf (t .files) n)
+  unfolding padOut
+  put a h =
+      let m = byteAt (partOf c) 0 in
+      let f = withRules (t .files) m (padOut (h .text)) (length (h .text)) in
+      let e : rulesOf (a .tag .files) n ≡ rulesOf f n = ap (λ x. rulesOf (x .tag .files) n) (h .is) ∙ ap (λ g. g n) (changed-rules t f m (h .mode)) in
+      e ∙ by (eqb m n) refl
+    where
+      by : (b : Bool) → eqb (byteAt (partOf c) 0) n ≡ b
+          → rulesOf (withRules (t .files) (byteAt (partOf c) 0) (padOut (h .text)) (length (h .text))) n ≡ pick b (normal (stringIn t c)) (rulesOf (t .files) n)
+      by true q =
+          restored (t .files) (slots .rules) (slots .lens) (byteAt (partOf c) 0) (h .text) (h .good) n (ap slotOf (eqb-true (byteAt (partOf c) 0) n q)) small
+          ∙ ap normal (sym (string-sent t c (h .text) (h .mode) (h .sent)))
+      by false q =
+          slot-other (byteAt (partOf c) 0) n (t .files) (padOut (h .text)) (length (h .text))
+          (whole (t .files) (slots .rules) (slots .lens) (byteAt (partOf c) 0) (h .text) (h .good))
+          (λ s. not-both (sym q ∙ eq-eqb (byteAt (partOf c) 0) n (same-slot (byteAt (partOf c) 0) n s small)))
+
+  -- the string of file n after a command
+  pub answered-rules : rulesOf (answered t c random .tag .files) n
+      ≡ pick (and (isChange c n) (accepting (answered t c random .status))) (normal (stringIn t c)) (rulesOf (t .files) n)
+  unfolding isChange
+  answered-rules = by (eqb (byteAt c 0) 0x90) (eqb (byteAt c 1) 0x5F) (accepting (answered t c random .status)) refl refl refl
+    where
+      by : (class command fair : Bool) → eqb (byteAt c 0) 0x90 ≡ class → eqb (byteAt c 1) 0x5F ≡ command
+          → accepting (answered t c random .status) ≡ fair
+          → rulesOf (answered t c random .tag .files) n
+          ≡ pick (and (and class (and command (eqb (byteAt (partOf c) 0) n))) fair) (normal (stringIn t c)) (rulesOf (t .files) n)
+      by false command fair p q r = every-answer t c random (Keeps t n) (keeps-kinds t c random n (rw p refl))
+      by true false fair p q r = every-answer t c random (Keeps t n) (keeps-kinds t c random n (rw (p, q) refl))
+      by true true true p q r =
+          put (answered t c random) (accepted-change t c random (eqb-true (byteAt c 0) 0x90 p) (eqb-true (byteAt c 1) 0x5F q) r)
+          ∙ also (eqb (byteAt (partOf c) 0) n)
+        where
+          also : (b : Bool) → pick b (normal (stringIn t c)) (rulesOf (t .files) n) ≡ pick (and b true) (normal (stringIn t c)) (rulesOf (t .files) n)
+          also true = refl
+          also false = refl
+      by true true false p q r = ap (λ f. rulesOf f n) (changed-accepted t c random r .files) ∙ never (eqb (byteAt (partOf c) 0) n)
+        where
+          never : (b : Bool) → rulesOf (t .files) n ≡ pick (and b false) (normal (stringIn t c)) (rulesOf (t .files) n)
+          never true = refl
+          never false = refl
+
+-- ---- a call, and a series
+step-rules : (t : Tag) → Slots t → (a : Asked) (n : ℕ) → slotOf n ≤ 2
+    → rulesOf (step t a .files) n ≡ pick (changes t a n) (normal (stringIn t (a .command))) (rulesOf (t .files) n)
+unfolding step changes replied unanswered
+step-rules t s a n h = by (outcomeOf t (a .random) (a .room))
+  where
+    by : (o : Outcome)
+        → rulesOf (byOutcome t (answered t (a .command) (a .random)) o .tag .files) n
+        ≡ pick (and (replies o) (and (isChange (a .command) n) (accepting (answered t (a .command) (a .random) .status)))) (normal (stringIn t (a .command))) (rulesOf (t .files) n)
+    by Replied = answered-rules t s (a .command) (a .random) n h
+    by SmallRoom = refl
+    by WrongRandom = refl
+    by Unsound = refl
+
+-- after any series the string of each file is the normal form of the last change accepted for it, or as it was
+pub series-rules : (t : Tag) → Fine t → (asked : List Asked) (n : ℕ) → slotOf n ≤ 2
+    → rulesOf (after t asked .files) n ≡ lastChange t asked n (rulesOf (t .files) n)
+unfolding after lastChange
+series-rules t f [] n h = refl
+series-rules t f (a ∷ more) n h =
+    series-rules (step t a) (fine-step t f a) more n h ∙ ap (lastChange (step t a) more n) (step-rules t (f .calm .slots) a n h)
+
+-- ---- from delivery on
+pub which : (n : ℕ) → 1 ≤ n → n ≤ 3 → (n ≡ 1) ⊎ ((n ≡ 2) ⊎ (n ≡ 3))
+which n a b = ⊎-elim (λ p. inl (omega arith)) (λ p. inr (⊎-elim (λ q. inl (omega arith)) (λ q. inr (omega arith)) (le-or-lt n 2))) (le-or-lt n 1)
+
+small-1 : slotOf 1 ≤ 2
+unfolding slotOf
+small-1 = omega arith
+
+small-2 : slotOf 2 ≤ 2
+unfolding slotOf
+small-2 = omega arith
+
+small-3 : slotOf 3 ≤ 2
+unfolding slotOf
+small-3 = omega arith
+
+pub small : (n : ℕ) → 1 ≤ n → n ≤ 3 → slotOf n ≤ 2
+small n a b =
+    ⊎-elim (λ e. subst (λ k. slotOf k ≤ 2) (sym e) small-1)
+    (⊎-elim (λ e. subst (λ k. slotOf k ≤ 2) (sym e) small-2) (λ e. subst (λ k. slotOf k ≤ 2) (sym e) small-3)) (which n a b)
+
+delivery-1 : (uid : List ℕ) → rulesOf (freshTag uid .files) 1 ≡ delivered 1
+unfolding freshTag deliveredFiles rulesOf slotOf delivered
+delivery-1 uid = refl
+
+delivery-2 : (uid : List ℕ) → rulesOf (freshTag uid .files) 2 ≡ delivered 2
+unfolding freshTag deliveredFiles rulesOf slotOf delivered
+delivery-2 uid = refl
+
+delivery-3 : (uid : List ℕ) → rulesOf (freshTag uid .files) 3 ≡ delivered 3
+unfolding freshTag deliveredFiles rulesOf slotOf delivered
+delivery-3 uid = refl
+
+delivery : (uid : List ℕ) (n : ℕ) → 1 ≤ n → n ≤ 3 → rulesOf (freshTag uid .files) n ≡ delivered n
+delivery uid n a b =
+    ⊎-elim (λ e. subst (λ k. rulesOf (freshTag uid .files) k ≡ delivered k) (sym e) (delivery-1 uid))
+    (⊎-elim (λ e. subst (λ k. rulesOf (freshTag uid .files) k ≡ delivered k) (sym e) (delivery-2 uid))
+    (λ e. subst (λ k. rulesOf (freshTag uid .files) k ≡ delivered k) (sym e) (delivery-3 uid)))
+    (which n a b)
+
+-- After any series of commands from a fresh tag, each file holds the normal form of the last change accepted for it, or its delivery
+-- settings.
+pub what-a-series-leaves : (uid : List ℕ) → rightUid uid ≡ true → (asked : List Asked) (n : ℕ) → 1 ≤ n → n ≤ 3
+    → rulesOf (after (freshTag uid) asked .files) n ≡ lastChange (freshTag uid) asked n (delivered n)
+what-a-series-leaves uid e asked n a b =
+    series-rules (freshTag uid) (sound-fine (freshTag uid) (fresh-slots uid) (fresh-sound uid e)) asked n (small n a b)
+    ∙ ap (lastChange (freshTag uid) asked n) (delivery uid n a b)

@@ -1,0 +1,92 @@
+-- Every record is reachable: the command that carries a settings string, the tags that grant it, and what it comes to.
+use mathlib.Core.Path.{_≡_}
+use mathlib.Core.Bool.{true, false}
+use mathlib.Core.List.{List, [], _∷_, _++_}
+use mathlib.Core.Logic.{_⊎_}
+use Prim.Native.Nat.{ℕ, _+_, _-_, _≤_, _<_}
+use lib.ListN.{length, replicate}
+use Rattle.base.specs.Bytes.{over}
+use Rattle.aes.specs.Block.{IsBlock}
+use Rattle.messaging.specs.declared.Mode.{Mode}
+use Rattle.messaging.specs.declared.Mode.the-variants.{Plain, Full}
+use Rattle.messaging.specs.Protect.{messageMac}
+use Rattle.messaging.specs.Command.{wrapped}
+use Rattle.messaging.specs.Reply.{closed}
+use Rattle.settings.specs.declared.Settings.{Settings}
+use Rattle.settings.specs.Fields.{readOf, stringOf}
+use Rattle.settings.specs.Normal.{normal}
+use Rattle.settings.proofs.OneMeaning.{OneString}
+use Rattle.state.specs.declared.Access.the-variants.{In}
+use Rattle.state.specs.declared.Tag.{Tag}
+use Rattle.state.specs.State.{rulesOf, readingIn}
+use Rattle.state.specs.Access.{accessFor}
+use Rattle.state.specs.Sound.{soundTag}
+use Rattle.answer.specs.Answer.{given, afterwards, raised, sessionOf}
+use Rattle.strings.specs.Strings.{withRules, restrung}
+use Rattle.tag.specs.declared.Outcome.the-variants.{Replied}
+use Rattle.tag.specs.Call.{answered, replyOf, outcomeOf, roomBy}
+use Rattle.series.specs.Series.{Asked, step, Slots}
+
+-- CLA 90, INS, P1 P2 0000, Lc, data, Le 00
+unfoldable pub built : ℕ → List ℕ → List ℕ
+built ins x = 0x90 ∷ ins ∷ 0 ∷ 0 ∷ length x ∷ (x ++ 0 ∷ [])
+
+-- the Change right of file n
+unfoldable pub changeOf : Tag → ℕ → ℕ
+changeOf t n = readingIn (t .files) n .settings .head .change
+
+-- what the other side sends: ChangeFileSettings of file n, its data the string in the mode, under the session's keys
+unfoldable pub carried : Tag → Mode → ℕ → List ℕ → List ℕ
+carried t m n s = wrapped (sessionOf (t .live)) m 0x5F (n ∷ []) true s
+
+unfoldable pub changing : Tag → Mode → ℕ → List ℕ → List ℕ
+changing t m n s = built 0x5F (carried t m n s)
+
+-- the call with the string of a record
+abbrev pub asking : Tag → ℕ → Settings → Mode → List ℕ → List ℕ → Asked
+asking t n r m random room = record { command = changing t m n (stringOf r); random = random; room = room }
+
+-- the tag with that string, after an accepted command
+unfoldable pub changed : Tag → ℕ → List ℕ → Tag
+changed t n s = afterwards (restrung t (withRules (t .files) n (normal s ++ replicate (27 - length s) 0) (length s)) n)
+
+-- a sound tag in the application, no part two pending, that grants the change of file n, in mode m; in session CmdCtr is below
+-- 65,535. Its arrays have their lengths and bytes, as in every value of the type
+pub record Ready (t : Tag) (n : ℕ) (m : Mode) : Type 0 where
+  pub slots : Slots t
+  pub enc : IsBlock (t .live .enc)
+  pub sound : soundTag t ≡ true
+  pub application : t .place .application ≡ true
+  pub idle : t .pending .on ≡ false
+  pub first : 1 ≤ n
+  pub last : n ≤ 3
+  pub grants : accessFor 0x5F (t .live) (readingIn (t .files) n .settings .head) ≡ In m
+  pub counter : t .live .on ≡ true → t .live .counter < 65535
+
+-- under E: the command is plain, and the reply is 9100 alone
+pub record UnderE (t : Tag) (n : ℕ) (s : List ℕ) (m : Mode) (random : List ℕ) : Type 0 where
+  pub right : changeOf t n ≡ 14
+  pub mode : m ≡ Plain
+  pub command : changing t m n s ≡ 0x90 ∷ 0x5F ∷ 0 ∷ 0 ∷ (1 + length s) ∷ n ∷ (s ++ 0 ∷ [])
+  pub reply : replyOf (answered t (changing t m n s) random) ≡ 0x91 ∷ 0x00 ∷ []
+
+-- under the session's key: the command is encrypted and has a MAC, and the reply is a MAC, under CmdCtr raised by one, and 9100
+pub record UnderKey (t : Tag) (n : ℕ) (s : List ℕ) (m : Mode) (random : List ℕ) : Type 0 where
+  pub live : t .live .on ≡ true
+  pub right : changeOf t n ≡ t .live .key
+  pub mode : m ≡ Full
+  pub command : changing t m n s ≡ built 0x5F (wrapped (sessionOf (t .live)) Full 0x5F (n ∷ []) true s)
+  pub counted : raised (t .live) .counter ≡ t .live .counter + 1
+  pub reply : replyOf (answered t (changing t m n s) random) ≡ messageMac (sessionOf (raised (t .live))) 0 [] ++ 0x91 ∷ 0x00 ∷ []
+
+pub record Reached (t : Tag) (n : ℕ) (r : Settings) (m : Mode) (random room : List ℕ) : Type 0 where
+  pub string : OneString n r (stringOf r)
+  pub answers : outcomeOf t random room ≡ Replied
+  pub accepts : answered t (changing t m n (stringOf r)) random
+      ≡ given (changed t n (stringOf r)) 0x9100 (closed (sessionOf (raised (t .live))) m 0 [])
+  pub room-holds : roomBy (answered t (changing t m n (stringOf r)) random) room (outcomeOf t random room)
+      ≡ over (replyOf (answered t (changing t m n (stringOf r)) random)) room
+  pub due : UnderKey t n (stringOf r) m random ⊎ UnderE t n (stringOf r) m random
+  pub holds : rulesOf (step t (asking t n r m random room) .files) n ≡ stringOf r
+  pub means : readOf (rulesOf (step t (asking t n r m random room) .files) n) ≡ r
+  pub sound : soundTag (step t (asking t n r m random room)) ≡ true

@@ -1,0 +1,125 @@
+-- What a series of calls says, and the last change of a file's settings that was accepted in it.
+use mathlib.Core.Bool.{Bool, true, false, not}
+use mathlib.Core.List.{List, [], _∷_, _++_}
+use mathlib.Core.Path.{_≡_}
+use Prim.Native.Nat.{ℕ}
+use lib.Dec.{eqb}
+use lib.ListN.{take, drop, replicate}
+use Rattle.base.specs.Decide.{pick, and}
+use Rattle.base.specs.Bytes.{byteAt}
+use Rattle.messaging.specs.declared.Mode.{Mode}
+use Rattle.messaging.specs.declared.Mode.the-variants.{Plain, Mac}
+use Rattle.messaging.specs.Reply.{closed}
+use Rattle.messaging.specs.Protect.{Opening, plain, wrongLength, wrongMac, wrongPadding}
+use Rattle.settings.specs.Normal.{normal}
+use Rattle.state.specs.declared.Access.{Access}
+use Rattle.state.specs.declared.Access.the-variants.{In, Never, Denied}
+use Rattle.state.specs.declared.Tag.{Tag}
+use Rattle.state.specs.State.{sizeOf, readingIn}
+use Rattle.state.specs.Fresh.{firstRules, secondRules, thirdRules}
+use Rattle.state.specs.Access.{accessFor}
+use Rattle.answer.specs.Answer.{Answer, raised, sessionOf}
+use Rattle.strings.specs.Strings.{settingsReply}
+use Rattle.tag.specs.declared.Outcome.{Outcome}
+use Rattle.tag.specs.declared.Outcome.the-variants.{Replied, SmallRoom, WrongRandom, Unsound}
+use Rattle.tag.specs.Wrapped.{partOf, openingOf}
+use Rattle.tag.specs.Call.{answered, replyOf, outcomeOf}
+use Rattle.series.specs.Series.{Asked, step, accepting}
+use Rattle.series.specs.Worked.{selectApplication, settingsOf}
+
+-- what a call says: its outcome and the reply, none where it is refused
+pub record Said : Type 0 where
+  pub outcome : Outcome
+  pub reply : List ℕ
+
+abbrev pub heard : Answer → Outcome → List ℕ
+heard a Replied = replyOf a
+heard a SmallRoom = []
+heard a WrongRandom = []
+heard a Unsound = []
+
+unfoldable pub said : Tag → Asked → Said
+said t a =
+    let o = outcomeOf t (a .random) (a .room) in
+    record { outcome = o; reply = heard (answered t (a .command) (a .random)) o }
+
+unfoldable pub saidAll : Tag → List Asked → List Said
+saidAll t [] = []
+saidAll t (a ∷ more) = said t a ∷ saidAll (step t a) more
+
+-- two tags behave alike: the same replies to every later series of commands
+unfoldable pub Alike : Tag → Tag → Type 0
+Alike t u = (asked : List Asked) → saidAll t asked ≡ saidAll u asked
+
+-- ---- ChangeFileSettings
+-- CLA 90, INS 5F, file n
+unfoldable pub isChange : List ℕ → ℕ → Bool
+isChange c n = and (eqb (byteAt c 0) 0x90) (and (eqb (byteAt c 1) 0x5F) (eqb (byteAt (partOf c) 0) n))
+
+abbrev pub modeOf : Access → Mode
+modeOf (In m) = m
+modeOf Never = Plain
+modeOf Denied = Plain
+
+abbrev pub plainOf : Opening → List ℕ
+plainOf (plain p) = p
+plainOf wrongLength = []
+plainOf wrongMac = []
+plainOf wrongPadding = []
+
+-- the string of a change, as the tag opens it
+unfoldable pub stringIn : Tag → List ℕ → List ℕ
+stringIn t c =
+    let h = readingIn (t .files) (byteAt (partOf c) 0) .settings .head in
+    plainOf (openingOf t 0x5F (partOf c) (modeOf (accessFor 0x5F (t .live) h)))
+
+abbrev pub replies : Outcome → Bool
+replies Replied = true
+replies SmallRoom = false
+replies WrongRandom = false
+replies Unsound = false
+
+-- a call that changes the settings of file n: it is a change of that file, and the reply accepts it
+unfoldable pub changes : Tag → Asked → ℕ → Bool
+changes t a n =
+    and (replies (outcomeOf t (a .random) (a .room)))
+    (and (isChange (a .command) n) (accepting (answered t (a .command) (a .random) .status)))
+
+-- the normal form of the last change of file n that a series accepts; s where there is none
+unfoldable pub lastChange : Tag → List Asked → ℕ → List ℕ → List ℕ
+lastChange t [] n s = s
+lastChange t (a ∷ more) n s = lastChange (step t a) more n (pick (changes t a n) (normal (stringIn t (a .command))) s)
+
+-- ---- GetFileSettings
+-- CLA 90, INS F5, file n
+unfoldable pub asksSettings : List ℕ → ℕ → Bool
+asksSettings c n = and (eqb (byteAt c 0) 0x90) (and (eqb (byteAt c 1) 0xF5) (eqb (byteAt (partOf c) 0) n))
+
+-- what GetFileSettings of file n is answered: MAC in session, else Plain
+abbrev pub readText : Tag → ℕ → List ℕ → List ℕ
+readText t n s = closed (sessionOf (raised (t .live))) (pick (t .live .on) Mac Plain) 0 (settingsReply s (sizeOf n))
+
+-- the string in a reply: FileOption and rights behind the file type, then what stands behind the size
+unfoldable pub stringOfReply : List ℕ → List ℕ
+stringOfReply x = take 3 (drop 1 x) ++ drop 7 x
+
+-- no call of a series changes the settings of file n
+unfoldable pub untouched : Tag → List Asked → ℕ → Bool
+untouched t [] n = true
+untouched t (a ∷ more) n = and (not (changes t a n)) (untouched (step t a) more n)
+
+-- the settings of file n at delivery
+unfoldable pub delivered : ℕ → List ℕ
+delivered n = pick (eqb n 1) firstRules (pick (eqb n 2) secondRules thirdRules)
+
+-- the series that tells two tags apart: the application is selected, and GetFileSettings of file n
+unfoldable pub telling : ℕ → List Asked
+telling n =
+    record { command = selectApplication; random = replicate 20 0; room = replicate 258 0 }
+    ∷ record { command = settingsOf n; random = replicate 20 0; room = replicate 258 0 }
+    ∷ []
+
+-- two changes: alike in every later series, and one normal form
+pub record Exactly (t : Tag) (c d random : List ℕ) : Type 0 where
+  pub alike : normal (stringIn t c) ≡ normal (stringIn t d) → Alike (answered t c random .tag) (answered t d random .tag)
+  pub one-form : Alike (answered t c random .tag) (answered t d random .tag) → normal (stringIn t c) ≡ normal (stringIn t d)
