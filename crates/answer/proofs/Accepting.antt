@@ -11,7 +11,7 @@ use borrow.Author.Tests.{ltb-true}
 use Rattle.base.specs.Decide.{pick}
 use Rattle.base.specs.Bytes.{AllBytes, over}
 use Rattle.base.proofs.Bytes.{take-bytes}
-use Rattle.messaging.specs.Reply.{closed, closedLength, overlong, closing, closedIn, Closes}
+use Rattle.messaging.specs.Reply.{closed, closedLength, overlong, closing, closedIn, Closes, closedStatus}
 use Rattle.messaging.specs.declared.Mode.{Mode}
 use Rattle.messaging.specs.declared.Session.{Session}
 use Rattle.messaging.specs.declared.Closed.{Closed}
@@ -45,7 +45,7 @@ small-told false false l e = let z : _≡_ {A = ℕ} 0 1 = cc in absurd (omega a
 
 -- ---- the answer
 accepted-over : (t : Tag) (m : Mode) (d : List ℕ) → overlong m (length d) ≡ true → accepted t m d ≡ refusal t 0x917E
-unfolding accepted
+unfolding accepted closedStatus
 accepted-over t m d e = rw e refl
 
 accepted-short : (t : Tag) (m : Mode) (d : List ℕ) → overlong m (length d) ≡ false

@@ -7,7 +7,8 @@ use lib.ListN.{length, take}
 use Rattle.base.specs.Decide.{pick}
 use Rattle.messaging.specs.declared.Mode.{Mode}
 use Rattle.messaging.specs.declared.Session.{Session}
-use Rattle.messaging.specs.Reply.{closed, overlong}
+use Rattle.messaging.specs.declared.Closed.the-variants.{Over}
+use Rattle.messaging.specs.Reply.{closed, overlong, closedStatus}
 use Rattle.state.specs.declared.Live.{Live}
 use Rattle.state.specs.declared.Tag.{Tag}
 use Rattle.state.specs.State.{quieted, endedOf}
@@ -56,7 +57,7 @@ afterwards t =
 -- An accepted command: its data closed in its mode under the raised CmdCtr; over 256 bytes with its MAC: 917E
 unfoldable pub accepted : Tag → Mode → List ℕ → Answer
 accepted t m d =
-    pick (overlong m (length d)) (refusal t 0x917E)
+    pick (overlong m (length d)) (refusal t (closedStatus Over))
     (given (afterwards t) 0x9100 (closed (sessionOf (raised (t .live))) m 0 d))
 
 -- what the code's answer says

@@ -14,7 +14,7 @@ use Rattle.messaging.specs.declared.Mode.the-variants.{Plain, Mac}
 use Rattle.messaging.specs.declared.Opened.the-variants.{WrongLength, WrongMac, WrongPadding}
 use Rattle.messaging.specs.Protect.{Opening, plain, wrongLength, wrongMac, wrongPadding}
 use Rattle.messaging.specs.Command.{openedStatus}
-use Rattle.messaging.specs.Reply.{overlong}
+use Rattle.messaging.specs.Reply.{overlong, closedStatus}
 use Rattle.settings.specs.Normal.{normal}
 use Rattle.state.specs.declared.Tag.{Tag}
 use Rattle.state.specs.State.{slotOf, sizeOf, rulesOf}
@@ -39,7 +39,7 @@ module _ (t : Tag) (c random : List ℕ) (class : byteAt c 0 ≡ 0x90) (command 
   refused s e h = absurd (not-both (sym e ∙ h))
 
   own-read : (p : List ℕ) → P (own t 0xF5 (partOf c) p (pick (t .live .on) Mac Plain) random)
-  unfolding own fileSettings accepted
+  unfolding own fileSettings accepted closedStatus
   own-read p =
       let d = settingsReply (rulesOf (t .files) (byteAt (partOf c) 0)) (sizeOf (byteAt (partOf c) 0)) in
       way P (overlong (pick (t .live .on) Mac Plain) (length d)) (λ e. refused 0x917E form-refuses) (λ e h. refl)

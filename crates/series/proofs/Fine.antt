@@ -9,7 +9,8 @@ use Rattle.base.specs.Decide.{and}
 use Rattle.base.specs.Bytes.{byteAt}
 use Rattle.base.proofs.Bytes.{and-left, and-right}
 use Rattle.messaging.specs.declared.Mode.{Mode}
-use Rattle.messaging.specs.Reply.{overlong}
+use Rattle.messaging.specs.declared.Closed.the-variants.{Over}
+use Rattle.messaging.specs.Reply.{overlong, closedStatus}
 use Rattle.state.specs.declared.Secrets.{Secrets}
 use Rattle.state.specs.declared.Tag.{Tag}
 use Rattle.state.specs.State.{rulesOf, readingIn, noLive, noPending, quieted, endedOf}
@@ -115,7 +116,7 @@ fine-refused t c s = fine-ended t c
 
 pub fine-accepted : (t : Tag) → Calm t → (m : Mode) (d : List ℕ) → FineAfter (accepted t m d)
 unfolding accepted
-fine-accepted t c m d = way FineAfter (overlong m (length d)) (λ e. fine-refused t c 0x917E) (λ e. fine-after t c)
+fine-accepted t c m d = way FineAfter (overlong m (length d)) (λ e. fine-refused t c (closedStatus Over)) (λ e. fine-after t c)
 
 -- ---- other keys, other bytes
 pub calm-keyed : (t : Tag) → Calm t → (s : Secrets) → Calm (keyed t s)

@@ -1,18 +1,21 @@
 -- Laws of the data of ISO commands, of the reply in the room, and of a call's outcome.
-use mathlib.Core.Path.{_≡_, ap, _∙_}
-use mathlib.Core.Bool.{true, false, not}
+use mathlib.Core.Path.{_≡_, refl, sym, ap, _∙_}
+use mathlib.Core.Bool.{Bool, true, false, not}
 use mathlib.Core.Logic.{⊎-elim}
 use mathlib.Core.List.{List, [], _∷_}
 use Prim.Native.Nat.{ℕ, _+_, _-_, _≤_, _<_, _/_, _%_}
 use native.Mathlib.Omega.{arith}
-use lib.Dec.{eqb, leb}
+use lib.Dec.{eqb, leb, ltb}
 use lib.ListN.{length, take, drop}
 use borrow.Author.Tests.{le-leb, lt-leb, lt-ltb, le-ltb, eq-eqb, ne-eqb, eqb-true, leb-true}
 use Rattle.base.specs.Decide.{pick, or}
 use Rattle.base.specs.Bytes.{byteAt, laid, over}
 use Rattle.base.proofs.Bytes.{le-or-lt, and-right, none}
 use Rattle.messaging.proofs.Pieces.{also}
+use Rattle.state.specs.declared.Birth.{Birth}
+use Rattle.state.specs.declared.Made.the-variants.{Fresh, WrongUid}
 use Rattle.state.specs.declared.Tag.{Tag}
+use Rattle.state.specs.Fresh.{blank, freshTag, rightUid, born}
 use Rattle.state.specs.Sound.{soundTag}
 use Rattle.answer.specs.declared.Done.{Done}
 use Rattle.answer.specs.Answer.{Answer, Gives, answerOf}
@@ -20,7 +23,7 @@ use Rattle.tag.specs.declared.Outcome.{Outcome}
 use Rattle.tag.specs.declared.Outcome.the-variants.{Replied, SmallRoom, WrongRandom, Unsound}
 use Rattle.tag.specs.declared.Called.{Called}
 use Rattle.tag.specs.InterIndustry.{isoForm, lcOf, hasLe, dataOf, fits}
-use Rattle.tag.specs.Call.{withStatus, answered, replyOf, replied, outcomeOf, byOutcome, roomBy, Laid, Calls, Replies}
+use Rattle.tag.specs.Call.{withStatus, answered, replyOf, replied, unanswered, outcomeOf, refusalNumber, refusalOf, madeNumber, byOutcome, roomBy, Laid, Calls, Replies}
 
 -- ---- the data of an ISO command
 -- n bytes are as many as Lc says, without Le or with it
@@ -89,7 +92,40 @@ module _ (t : Tag) (random room : List ℕ) where
   unfolding outcomeOf
   sound-or-not h k = rw (le-ltb (length room) 258 h, eq-eqb (length random) 20 k)
 
+-- the numbers of the outcomes, in the same order
+number-is : (t : Tag) (random room : List ℕ) → refusalNumber (outcomeOf t random room) ≡ refusalOf t random room
+unfolding outcomeOf refusalOf refusalNumber
+number-is t random room = by (ltb (length room) 258) (eqb (length random) 20) (soundTag t)
+  where
+    by : (small twenty sound : Bool)
+        → refusalNumber (pick small SmallRoom (pick twenty (pick sound Replied Unsound) WrongRandom)) ≡ pick small 1 (pick twenty (pick sound 0 3) 2)
+    by true twenty sound = refl
+    by false false sound = refl
+    by false true true = refl
+    by false true false = refl
+
+outcome-number : (t : Tag) (a : Answer) (o : Outcome) → refusalNumber (byOutcome t a o .outcome) ≡ refusalNumber o
+unfolding replied unanswered
+outcome-number t a Replied = refl
+outcome-number t a SmallRoom = refl
+outcome-number t a WrongRandom = refl
+outcome-number t a Unsound = refl
+
 -- a call by its outcome
 pub calls : (t : Tag) (c random old : List ℕ) (r : Called) (new : List ℕ) (o : Outcome) → outcomeOf t random old ≡ o
     → r ≡ byOutcome t (answered t c random) o → new ≡ roomBy (answered t c random) old o → Calls t c random old r new
-calls t c random old r new o e p q = record { told = rw e p; left = rw e q }
+calls t c random old r new o e p q =
+    record {
+      number = ap (λ (x : Called). refusalNumber (x .outcome)) p ∙ outcome-number t (answered t c random) o ∙ ap refusalNumber (sym e) ∙ number-is t random old;
+      told = rw e p;
+      left = rw e q;
+    }
+
+-- refusal 4 is the fresh tag's
+pub born-number : (uid : List ℕ) → madeNumber (born uid .made) ≡ pick (rightUid uid) 0 4
+unfolding madeNumber born
+born-number uid = by (rightUid uid)
+  where
+    by : (b : Bool) → madeNumber (pick {A = Birth} b (record { made = Fresh; tag = freshTag uid }) (record { made = WrongUid; tag = blank }) .made) ≡ pick b 0 4
+    by true = refl
+    by false = refl

@@ -1,7 +1,7 @@
 -- Wrapped commands: the keys of a match, the length of the data, and each step as the next one's answer.
 use mathlib.Core.Path.{_≡_, refl, sym, ap, ap₂, subst, _∙_}
 use mathlib.Core.Bool.{Bool, true, false}
-use mathlib.Core.List.{List, [], _∷_, _++_}
+use mathlib.Core.List.{List, [], _∷_}
 use mathlib.Core.Logic.{_⊎_, inl, inr, ⊎-elim}
 use Prim.Native.Nat.{ℕ, zero, suc, _+_, _-_, _≤_, _<_}
 use native.Mathlib.Omega.{arith}
@@ -50,15 +50,6 @@ unfolding oneOf
 none [] x h = refl
 none (k ∷ []) x h = rw (ne-eqb x k h) refl
 none (k ∷ k′ ∷ ks) x h = rw (ne-eqb x k (λ e. h (inl e))) (none (k′ ∷ ks) x (λ r. h (inr r)))
-
-or-assoc : (a b c : Bool) → or a (or b c) ≡ or (or a b) c
-or-assoc true b c = refl
-or-assoc false b c = refl
-
-pub one-append : (a b : List ℕ) (x : ℕ) → oneOf x (a ++ b) ≡ or (oneOf x a) (oneOf x b)
-unfolding oneOf
-one-append [] b x = refl
-one-append (k ∷ a) b x = ap (or (eqb x k)) (one-append a b x) ∙ or-assoc (eqb x k) (oneOf x a) (oneOf x b)
 
 pub not-zero : (n : ℕ) → (n ≡ 0 → ⊥) → leb 1 n ≡ true
 not-zero zero h = absurd (h refl)

@@ -6,6 +6,8 @@ use lib.Dec.{eqb, ltb}
 use lib.ListN.{length}
 use Rattle.base.specs.Decide.{pick, or}
 use Rattle.base.specs.Bytes.{byteAt, over}
+use Rattle.state.specs.declared.Made.{Made}
+use Rattle.state.specs.declared.Made.the-variants.{Fresh, WrongUid}
 use Rattle.state.specs.declared.Tag.{Tag}
 use Rattle.state.specs.Sound.{soundTag}
 use Rattle.answer.specs.Answer.{Answer, refusal}
@@ -33,6 +35,22 @@ unfoldable pub outcomeOf : Tag → List ℕ → List ℕ → Outcome
 outcomeOf t random room =
     pick (ltb (length room) 258) SmallRoom (pick (eqb (length random) 20) (pick (soundTag t) Replied Unsound) WrongRandom)
 
+-- 01's number of an outcome; 0 where there is a reply
+unfoldable pub refusalNumber : Outcome → ℕ
+refusalNumber Replied = 0
+refusalNumber SmallRoom = 1
+refusalNumber WrongRandom = 2
+refusalNumber Unsound = 3
+
+-- refusals 1 to 3, in this order, by their numbers
+unfoldable pub refusalOf : Tag → List ℕ → List ℕ → ℕ
+refusalOf t random room = pick (ltb (length room) 258) 1 (pick (eqb (length random) 20) (pick (soundTag t) 0 3) 2)
+
+-- 01's number of a fresh tag's answer: refusal 4
+unfoldable pub madeNumber : Made → ℕ
+madeNumber Fresh = 0
+madeNumber WrongUid = 4
+
 -- refused: length 0 and the state as it was
 unfoldable pub unanswered : Outcome → Tag → Called
 unanswered o t = record { outcome = o; length = 0; tag = t }
@@ -55,6 +73,7 @@ roomBy a room WrongRandom = room
 roomBy a room Unsound = room
 
 pub record Calls (t : Tag) (c random old : List ℕ) (r : Called) (new : List ℕ) : Type 0 where
+  pub number : refusalNumber (r .outcome) ≡ refusalOf t random old
   pub told : r ≡ byOutcome t (answered t c random) (outcomeOf t random old)
   pub left : new ≡ roomBy (answered t c random) old (outcomeOf t random old)
 
@@ -67,10 +86,3 @@ pub record Laid (text old : List ℕ) (n : ℕ) (new : List ℕ) : Type 0 where
 pub record Replies (a : Answer) (old : List ℕ) (r : Called) (new : List ℕ) : Type 0 where
   pub told : r ≡ replied a
   pub left : new ≡ over (replyOf a) old
-
--- 01's number of an outcome; 0 where there is a reply
-unfoldable pub refusalNumber : Outcome → ℕ
-refusalNumber Replied = 0
-refusalNumber SmallRoom = 1
-refusalNumber WrongRandom = 2
-refusalNumber Unsound = 3

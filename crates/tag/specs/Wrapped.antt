@@ -39,7 +39,7 @@ partOf c = take (length c - 6) (drop 5 c)
 
 -- the commands, wrapped
 abbrev pub wrappedCommands : List ℕ
-wrappedCommands = 0x51 ∷ 0x5F ∷ 0x64 ∷ 0x71 ∷ 0x77 ∷ 0xAF ∷ 0xC4 ∷ 0xF5 ∷ 0x8D ∷ 0xAD ∷ 0xF6 ∷ []
+wrappedCommands = 0x71 ∷ 0x77 ∷ 0xAF ∷ 0xC4 ∷ 0x64 ∷ 0x51 ∷ 0xF5 ∷ 0x5F ∷ 0xF6 ∷ 0xAD ∷ 0x8D ∷ []
 
 -- steps 3 and 4: unknown INS 911C; P1 P2 not 0000 919E; part two pending and not AF 91CA; AF with none pending 911C; else 0
 unfoldable pub orderStatus : ℕ → ℕ → ℕ → Bool → ℕ
