@@ -1,0 +1,146 @@
+//! `peer play`, `peer talks` and `peer bench`.
+
+use std::io::{Read, Write as _};
+use std::path::{Path, PathBuf};
+use std::process::ExitCode;
+use std::time::{SystemTime, UNIX_EPOCH};
+
+use peer::bench::{rate, workloads};
+use peer::bytes::hex;
+use peer::log::Log;
+use peer::tag::{Tag, ROOM};
+use peer::talk::{talk, Tally};
+
+const USAGE: &str = "peer play < LOG
+peer talks [--seed N] [--exchanges E] [--each K] --into DIR
+peer bench";
+
+type Outcome = Result<ExitCode, String>;
+
+/// Writes to standard output.
+fn say(text: &str) -> Result<(), String> {
+    let mut out = std::io::stdout().lock();
+    out.write_all(text.as_bytes())
+        .and_then(|()| out.flush())
+        .map_err(|error| format!("standard output: {error}"))
+}
+
+fn main() -> ExitCode {
+    let arguments: Vec<String> = std::env::args().skip(1).collect();
+    let outcome = match arguments.split_first() {
+        Some((word, [])) if word == "play" => play(),
+        Some((word, [])) if word == "bench" => bench(),
+        Some((word, rest)) if word == "talks" => talks(rest),
+        _ => Err(USAGE.to_string()),
+    };
+    outcome.unwrap_or_else(|what| {
+        eprintln!("{what}");
+        ExitCode::FAILURE
+    })
+}
+
+/// Plays a log from a fresh tag.
+fn play() -> Outcome {
+    let mut text = Vec::new();
+    std::io::stdin()
+        .read_to_end(&mut text)
+        .map_err(|error| format!("standard input: {error}"))?;
+    let log = Log::parse(&text).map_err(|malformed| malformed.to_string())?;
+    let differences = log.play().ok_or("line 1: no UID of a tag")?;
+    let mut lines = String::new();
+    for difference in &differences {
+        let (logged, ours) = (hex(&difference.logged), hex(&difference.ours));
+        lines += &format!("{} {logged} {ours}\n", difference.number);
+    }
+    let (all, differing) = (log.exchanges.len(), differences.len());
+    say(&format!("{lines}{all} exchanges, {differing} differ\n"))?;
+    Ok(match differing {
+        0 => ExitCode::SUCCESS,
+        _ => ExitCode::FAILURE,
+    })
+}
+
+/// What `peer talks` is asked for.
+struct Order {
+    seed: u64,
+    exchanges: usize,
+    each: usize,
+    into: PathBuf,
+}
+
+impl Order {
+    fn parse(arguments: &[String]) -> Result<Order, String> {
+        let (mut seed, mut exchanges, mut each, mut into) = (clock(), 20_000, 400, None);
+        for pair in arguments.chunks(2) {
+            let [name, value] = pair else {
+                return Err(USAGE.to_string());
+            };
+            match name.as_str() {
+                "--seed" => seed = number(value)?,
+                "--exchanges" => exchanges = number(value)?,
+                "--each" => each = number(value)?,
+                "--into" => into = Some(PathBuf::from(value)),
+                _ => return Err(USAGE.to_string()),
+            }
+        }
+        if each == 0 {
+            return Err("--each must be at least 1".to_string());
+        }
+        Ok(Order {
+            seed,
+            exchanges,
+            each,
+            into: into.ok_or(USAGE)?,
+        })
+    }
+}
+
+fn number<T: std::str::FromStr>(text: &str) -> Result<T, String> {
+    text.parse().map_err(|_| format!("not a number: {text}"))
+}
+
+/// A seed from the clock.
+fn clock() -> u64 {
+    SystemTime::now()
+        .duration_since(UNIX_EPOCH)
+        .map_or(0, |since| since.as_nanos() as u64)
+}
+
+/// Writes random talks as logs and prints what happened in them.
+fn talks(arguments: &[String]) -> Outcome {
+    let order = Order::parse(arguments)?;
+    say(&format!("seed {}\n", order.seed))?;
+    std::fs::create_dir_all(&order.into).map_err(|error| at(&order.into, error))?;
+    let mut tally = Tally::default();
+    let (mut left, mut index) = (order.exchanges, 0);
+    while left > 0 {
+        let size = left.min(order.each);
+        let log = talk(order.seed, index, size, &mut tally).ok_or("no tag")?;
+        let path = order.into.join(format!("talk-{index:05}.log"));
+        std::fs::write(&path, log.text()).map_err(|error| at(&path, error))?;
+        left -= size;
+        index += 1;
+    }
+    say(&format!("{index} talks\n{tally}"))?;
+    Ok(ExitCode::SUCCESS)
+}
+
+fn at(path: &Path, error: std::io::Error) -> String {
+    format!("{}: {error}", path.display())
+}
+
+/// Prints calls per second for each workload.
+fn bench() -> Outcome {
+    for work in &workloads().ok_or("a workload was refused")? {
+        let mut prepared = Tag::fresh(&work.uid).ok_or("no tag")?;
+        for exchange in &work.prepare {
+            prepared.exchange(&exchange.command, &exchange.random);
+        }
+        let mut room = [0; ROOM];
+        let rate = rate(work, &prepared, |tag, exchange| {
+            tag.call(&exchange.command, &exchange.random, &mut room);
+        });
+        say(&format!("{:<28}{rate:>12.0} calls per second\n", work.name))?;
+    }
+    Ok(ExitCode::SUCCESS)
+}
