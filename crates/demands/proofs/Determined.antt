@@ -24,25 +24,7 @@ use Rattle.answer.specs.declared.Done.{Done}
 use Rattle.answer.specs.Answer.{Answer, answerOf, Gives}
 use Rattle.tag.specs.declared.Called.{Called}
 use Rattle.tag.specs.Call.{Calls, Laid, Replies}
-
--- a promise over a result
-abbrev pub Determined : {A : Type 0} → (A → Type 0) → Type 0
-Determined {A} P = (r q : A) → P r → P q → r ≡ q
-
--- a promise over a result and what the lent room holds then
-abbrev pub DeterminedIn : {A : Type 0} → (A → List ℕ → Type 0) → Type 0
-DeterminedIn {A} P = (r q : A) (new other : List ℕ) → P r new → P q other → (r ≡ q) × (new ≡ other)
-
--- what two answers by one promise share: all but the bytes behind the length
-pub record Alike (d e : Done) : Type 0 where
-  pub status : d .status ≡ e .status
-  pub count : d .length ≡ e .length
-  pub text : take (d .length) (d .bytes) ≡ take (e .length) (e .bytes)
-  pub tag : d .tag ≡ e .tag
-
--- a promise over an answer, whose array has 258 bytes
-abbrev pub DeterminedText : (Done → Type 0) → Type 0
-DeterminedText P = (d e : Done) → length (d .bytes) ≡ 258 → length (e .bytes) ≡ 258 → P d → P e → Alike d e
+use Rattle.demands.specs.Determining.{Determined, DeterminedIn, SameText, DeterminedText}
 
 -- ---- the general lemma: once for a result, once for a result and a room
 pub once : {A : Type 0} {x : A} → Determined (λ (r : A). r ≡ x)
@@ -108,7 +90,7 @@ gives-once d e m n p h =
     }
 
 -- and no more: an answer that is alike meets the promise too, whatever stands behind the length
-pub gives-open : (a : Answer) (d e : Done) → Gives a d → Alike d e → Gives a e
+pub gives-open : (a : Answer) (d e : Done) → Gives a d → SameText d e → Gives a e
 unfolding answerOf
 gives-open a d e p k =
     let s : answerOf d ≡ answerOf e = rw (k .status, k .text, k .tag) in

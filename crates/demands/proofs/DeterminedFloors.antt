@@ -59,7 +59,8 @@ use Rattle.state.specs.State.{startOf, sizeOf, slotOf, readingIn, keyIn, noLive
 use Rattle.state.specs.Access.{readGrant, writeGrant, accessFor}
 use Rattle.state.specs.Fresh.{born}
 use Rattle.state.specs.Sound.{soundTag}
-use Rattle.demands.proofs.Determined.{Determined, DeterminedIn, once, twice, chains-once, pads-once, opens-once, closes-once, hides-once}
+use Rattle.demands.specs.Determining.{Determined, DeterminedIn}
+use Rattle.demands.proofs.Determined.{once, twice, chains-once, pads-once, opens-once, closes-once, hides-once}
 
 -- ---- base
 pub at-determined : (s : List ℕ) (i : ℕ) → Determined (λ (r : ℕ). r ≡ byteAt s i)

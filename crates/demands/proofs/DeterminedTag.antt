@@ -24,7 +24,8 @@ use Rattle.selects.specs.Selects.{selected}
 use Rattle.binaries.specs.Binaries.{readBinary, updatedBinary}
 use Rattle.tag.specs.declared.Called.{Called}
 use Rattle.tag.specs.Call.{Calls}
-use Rattle.demands.proofs.Determined.{Determined, DeterminedIn, DeterminedText, once, gives-once, calls-once}
+use Rattle.demands.specs.Determining.{Determined, DeterminedIn, DeterminedText}
+use Rattle.demands.proofs.Determined.{once, gives-once, calls-once}
 
 -- ---- answer
 pub refuse-determined : (tag : Tag) (status : ℕ) → DeterminedText (λ (r : Done). Gives (refusal tag status) r)

@@ -1,2 +1,3 @@
 pub mod Talks
 pub mod Reaching
+pub mod Determining

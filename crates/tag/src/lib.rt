@@ -6,6 +6,7 @@ mod wrapped_form;
 
 pub use entry::call;
 pub use state::Birth;
+pub use state::Made;
 pub use state::Tag;
 pub use state::fresh;
 
