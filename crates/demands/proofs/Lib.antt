@@ -7,3 +7,4 @@ pub mod Reachable
 pub mod Determined
 pub mod DeterminedFloors
 pub mod DeterminedTag
+pub mod DeterminedStand

@@ -1,0 +1,276 @@
+-- Image to state and back loses nothing.
+use mathlib.Core.Path.{_≡_, refl, sym, ap, subst, _∙_}
+use mathlib.Core.Bool.{Bool, true, false}
+use mathlib.Core.List.{List, [], _∷_}
+use Prim.Native.Nat.{ℕ, zero, suc, _+_, _≤_, _<_}
+use native.Mathlib.Omega.{arith}
+use lib.Dec.{eqb, leb, lit<}
+use lib.ListN.{length, getD, take}
+use lib.Seq.{take-length}
+use borrow.Author.Tests.{eq-eqb, eqb-true, leb-true}
+use Rattle.base.specs.Decide.{pick, and}
+use Rattle.base.specs.Bytes.{byteAt, number, low, AllBytes}
+use Rattle.base.proofs.Bytes.{and-left, and-right}
+use Rattle.base.proofs.Numbers.{number-low}
+use Rattle.state.specs.declared.Files.{Files}
+use Rattle.state.specs.declared.Secrets.{Secrets}
+use Rattle.state.specs.declared.Live.{Live}
+use Rattle.state.specs.declared.Pending.{Pending}
+use Rattle.state.specs.declared.Place.{Place}
+use Rattle.state.specs.declared.Tapping.{Tapping}
+use Rattle.state.specs.declared.Tag.{Tag}
+use Rattle.image.specs.declared.Found.{Found}
+use Rattle.image.specs.declared.Found.the-variants.{Whole, WrongLength, WrongVersion, NotABoolean}
+use Rattle.image.specs.Image.{join, part, bit, flag, filePieces, secretPieces, livePieces, pendingPieces, placeBytes, tapPieces, tagPieces, imageOf, filesIn, secretsIn, liveIn, pendingIn, placeIn, tapIn, tagIn}
+use Rattle.image.specs.Answers.{bitsAt, booleans, rightLength, whole, refusedAs, readIn}
+use Rattle.image.proofs.Pieces.{lengths, sum, joined-length, piece, cut-join, part-length, part-bytes, part-at, part-tab, part-low}
+
+-- ---- what the code's types say of a state: each array has its length, and the counters fit
+pub record Filed (f : Files) : Type 0 where
+  pub bytes : length (f .bytes) ≡ 416
+  pub rules : length (f .rules) ≡ 81
+  pub lens : length (f .lens) ≡ 3
+
+pub record Locked (s : Secrets) : Type 0 where
+  pub keys : length (s .keys) ≡ 80
+  pub versions : length (s .versions) ≡ 5
+
+pub record Lives (l : Live) : Type 0 where
+  pub enc : length (l .enc) ≡ 16
+  pub mac : length (l .mac) ≡ 16
+  pub ti : length (l .ti) ≡ 4
+  pub counter : l .counter < 65536
+
+pub record Pends (p : Pending) : Type 0 where
+  pub rnd : length (p .«rnd_b») ≡ 16
+  pub cap : length (p .cap) ≡ 6
+  pub ti : length (p .ti) ≡ 4
+  pub counter : p .counter < 65536
+
+pub record Shaped (t : Tag) : Type 0 where
+  pub uid : length (t .uid) ≡ 7
+  pub files : Filed (t .files)
+  pub secrets : Locked (t .secrets)
+  pub live : Lives (t .live)
+  pub pending : Pends (t .pending)
+  pub counter : t .tap .counter < 4294967296
+
+-- ---- from a state to its image and back
+flag-bit : (b : Bool) → flag (bit b) ≡ b
+flag-bit true = refl
+flag-bit false = refl
+
+bit-right : (b : Bool) → leb (bit b) 1 ≡ true
+bit-right true = refl
+bit-right false = refl
+
+module _ (f : Files) (h : Filed f) where
+  pub file-widths : lengths (filePieces f) ≡ 416 ∷ 81 ∷ 3 ∷ []
+  file-widths = λ i. h .bytes i ∷ h .rules i ∷ h .lens i ∷ []
+
+  files-back : filesIn (join (filePieces f)) ≡ f
+  unfolding filesIn
+  files-back = let p = piece _ (filePieces f) file-widths in λ i. record { bytes = p 0 i; rules = p 1 i; lens = p 2 i }
+
+module _ (s : Secrets) (h : Locked s) where
+  pub secret-widths : lengths (secretPieces s) ≡ 80 ∷ 5 ∷ []
+  secret-widths = λ i. h .keys i ∷ h .versions i ∷ []
+
+  secrets-back : secretsIn (join (secretPieces s)) ≡ s
+  unfolding secretsIn
+  secrets-back = let p = piece _ (secretPieces s) secret-widths in λ i. record { keys = p 0 i; versions = p 1 i }
+
+module _ (l : Live) (h : Lives l) where
+  pub live-widths : lengths (livePieces l) ≡ 2 ∷ 16 ∷ 16 ∷ 4 ∷ 2 ∷ []
+  unfolding low
+  live-widths = λ i. 2 ∷ h .enc i ∷ h .mac i ∷ h .ti i ∷ 2 ∷ []
+
+  live-back : liveIn (join (livePieces l)) ≡ l
+  unfolding liveIn join
+  live-back =
+      let p = piece _ (livePieces l) live-widths in
+      λ i. record {
+        on = flag-bit (l .on) i;
+        key = l .key;
+        enc = p 1 i;
+        mac = p 2 i;
+        ti = p 3 i;
+        counter = (ap number (p 4) ∙ number-low 2 (l .counter) (h .counter)) i;
+      }
+
+module _ (l : Pending) (h : Pends l) where
+  pub pending-widths : lengths (pendingPieces l) ≡ 3 ∷ 16 ∷ 6 ∷ 4 ∷ 2 ∷ []
+  unfolding low
+  pending-widths = λ i. 3 ∷ h .rnd i ∷ h .cap i ∷ h .ti i ∷ 2 ∷ []
+
+  pending-back : pendingIn (join (pendingPieces l)) ≡ l
+  unfolding pendingIn join
+  pending-back =
+      let p = piece _ (pendingPieces l) pending-widths in
+      λ i. record {
+        on = flag-bit (l .on) i;
+        first = flag-bit (l .first) i;
+        key = l .key;
+        «rnd_b» = p 1 i;
+        cap = p 2 i;
+        ti = p 3 i;
+        counter = (ap number (p 4) ∙ number-low 2 (l .counter) (h .counter)) i;
+      }
+
+place-back : (p : Place) → placeIn (placeBytes p) ≡ p
+unfolding placeIn
+place-back p = λ i. record { application = flag-bit (p .application) i; file = p .file }
+
+pub tap-widths : (t : Tapping) → lengths (tapPieces t) ≡ 2 ∷ 4 ∷ []
+unfolding low
+tap-widths t = refl
+
+tap-back : (t : Tapping) → t .counter < 4294967296 → tapIn (join (tapPieces t)) ≡ t
+unfolding tapIn join
+tap-back t h =
+    λ i. record {
+      on = flag-bit (t .on) i;
+      iso = flag-bit (t .iso) i;
+      counter = (ap number (piece _ (tapPieces t) (tap-widths t) 1) ∙ number-low 4 (t .counter) h) i;
+    }
+
+module _ (t : Tag) (h : Shaped t) where
+  tag-widths : lengths (tagPieces t) ≡ 1 ∷ 7 ∷ 500 ∷ 85 ∷ 40 ∷ 31 ∷ 2 ∷ 6 ∷ []
+  tag-widths =
+      let f = joined-length (filePieces (t .files)) _ (file-widths (t .files) (h .files)) in
+      let s = joined-length (secretPieces (t .secrets)) _ (secret-widths (t .secrets) (h .secrets)) in
+      let l = joined-length (livePieces (t .live)) _ (live-widths (t .live) (h .live)) in
+      let p = joined-length (pendingPieces (t .pending)) _ (pending-widths (t .pending) (h .pending)) in
+      let q = joined-length (tapPieces (t .tap)) _ (tap-widths (t .tap)) in
+      λ i. 1 ∷ h .uid i ∷ f i ∷ s i ∷ l i ∷ p i ∷ 2 ∷ q i ∷ []
+
+  tag-piece : (k : ℕ) → part (imageOf t) (sum (take k (1 ∷ 7 ∷ 500 ∷ 85 ∷ 40 ∷ 31 ∷ 2 ∷ 6 ∷ []))) (getD (1 ∷ 7 ∷ 500 ∷ 85 ∷ 40 ∷ 31 ∷ 2 ∷ 6 ∷ []) k 0) ≡ getD (tagPieces t) k []
+  unfolding imageOf
+  tag-piece = piece _ (tagPieces t) tag-widths
+
+  -- what is written is read back
+  pub image-read : tagIn (imageOf t) ≡ t
+  unfolding tagIn
+  image-read =
+      λ i. record {
+        uid = tag-piece 1 i;
+        files = (ap filesIn (tag-piece 2) ∙ files-back (t .files) (h .files)) i;
+        secrets = (ap secretsIn (tag-piece 3) ∙ secrets-back (t .secrets) (h .secrets)) i;
+        live = (ap liveIn (tag-piece 4) ∙ live-back (t .live) (h .live)) i;
+        pending = (ap pendingIn (tag-piece 5) ∙ pending-back (t .pending) (h .pending)) i;
+        place = (ap placeIn (tag-piece 6) ∙ place-back (t .place)) i;
+        tap = (ap tapIn (tag-piece 7) ∙ tap-back (t .tap) (h .counter)) i;
+      }
+
+  bit-byte : (i n j k : ℕ) (b : Bool) → j < n → part (imageOf t) i n ≡ getD (tagPieces t) k [] → byteAt (getD (tagPieces t) k []) j ≡ bit b
+      → leb (byteAt (imageOf t) (i + j)) 1 ≡ true
+  bit-byte i n j k b h p e =
+      ap (λ v. leb v 1) (sym (part-at (imageOf t) i n j h) ∙ ap (λ x. byteAt x j) p ∙ e) ∙ bit-right b
+
+  image-bits : bitsAt (imageOf t) booleans ≡ true
+  unfolding bitsAt join
+  image-bits =
+      rw (
+        bit-byte 593 40 0 4 (t .live .on) (lit< tt) (tag-piece 4) refl,
+        bit-byte 633 31 0 5 (t .pending .on) (lit< tt) (tag-piece 5) refl,
+        bit-byte 633 31 1 5 (t .pending .first) (lit< tt) (tag-piece 5) refl,
+        bit-byte 664 2 0 6 (t .place .application) (lit< tt) (tag-piece 6) refl,
+        bit-byte 666 6 0 7 (t .tap .on) (lit< tt) (tag-piece 7) refl,
+        bit-byte 666 6 1 7 (t .tap .iso) (lit< tt) (tag-piece 7) refl,
+      )
+      refl
+
+  pub image-length : length (imageOf t) ≡ 672
+  unfolding imageOf
+  image-length = joined-length (tagPieces t) _ tag-widths
+
+  first-byte : byteAt (imageOf t) 0 ≡ 1
+  unfolding imageOf join
+  first-byte = refl
+
+  -- and by name: nothing of it is refused
+  pub image-whole : readIn (imageOf t) ≡ whole t
+  unfolding readIn rightLength
+  image-whole =
+      rw (eq-eqb (length (imageOf t)) 672 image-length, eq-eqb (byteAt (imageOf t) 0) 1 first-byte, image-bits) (ap whole image-read)
+
+-- ---- from bytes to a state and back
+bit-flag : (n : ℕ) → n ≤ 1 → bit (flag n) ≡ n
+bit-flag zero h = refl
+bit-flag (suc zero) h = refl
+bit-flag (suc (suc n)) h = absurd (omega arith)
+
+files-kept : (x : List ℕ) → length x ≡ 500 → join (filePieces (filesIn x)) ≡ x
+unfolding filesIn
+files-kept x l = cut-join (416 ∷ 81 ∷ 3 ∷ []) x (sym l)
+
+secrets-kept : (x : List ℕ) → length x ≡ 85 → join (secretPieces (secretsIn x)) ≡ x
+unfolding secretsIn
+secrets-kept x l = cut-join (80 ∷ 5 ∷ []) x (sym l)
+
+live-kept : (x : List ℕ) → length x ≡ 40 → AllBytes x → byteAt x 0 ≤ 1 → join (livePieces (liveIn x)) ≡ x
+unfolding liveIn
+live-kept x l a b =
+    let head : bit (flag (byteAt x 0)) ∷ byteAt x 1 ∷ [] ≡ part x 0 2 = (λ i. bit-flag (byteAt x 0) b i ∷ byteAt x 1 ∷ []) ∙ sym (part-tab x 0 2 (omega arith)) in
+    (λ i. join (head i ∷ part x 2 16 ∷ part x 18 16 ∷ part x 34 4 ∷ part-low x 38 2 a (omega arith) i ∷ []))
+    ∙ cut-join (2 ∷ 16 ∷ 16 ∷ 4 ∷ 2 ∷ []) x (sym l)
+
+pending-kept : (x : List ℕ) → length x ≡ 31 → AllBytes x → byteAt x 0 ≤ 1 → byteAt x 1 ≤ 1 → join (pendingPieces (pendingIn x)) ≡ x
+unfolding pendingIn
+pending-kept x l a b d =
+    let head : bit (flag (byteAt x 0)) ∷ bit (flag (byteAt x 1)) ∷ byteAt x 2 ∷ [] ≡ part x 0 3 = (λ i. bit-flag (byteAt x 0) b i ∷ bit-flag (byteAt x 1) d i ∷ byteAt x 2 ∷ []) ∙ sym (part-tab x 0 3 (omega arith)) in
+    (λ i. join (head i ∷ part x 3 16 ∷ part x 19 6 ∷ part x 25 4 ∷ part-low x 29 2 a (omega arith) i ∷ []))
+    ∙ cut-join (3 ∷ 16 ∷ 6 ∷ 4 ∷ 2 ∷ []) x (sym l)
+
+place-kept : (x : List ℕ) → length x ≡ 2 → byteAt x 0 ≤ 1 → placeBytes (placeIn x) ≡ x
+unfolding placeIn
+place-kept x l b =
+    (λ i. bit-flag (byteAt x 0) b i ∷ byteAt x 1 ∷ []) ∙ sym (part-tab x 0 2 (omega arith)) ∙ ap (λ n. take n x) (sym l) ∙ take-length x
+
+tap-kept : (x : List ℕ) → length x ≡ 6 → AllBytes x → byteAt x 0 ≤ 1 → byteAt x 1 ≤ 1 → join (tapPieces (tapIn x)) ≡ x
+unfolding tapIn
+tap-kept x l a b d =
+    let head : bit (flag (byteAt x 0)) ∷ bit (flag (byteAt x 1)) ∷ [] ≡ part x 0 2 = (λ i. bit-flag (byteAt x 0) b i ∷ bit-flag (byteAt x 1) d i ∷ []) ∙ sym (part-tab x 0 2 (omega arith)) in
+    (λ i. join (head i ∷ part-low x 2 4 a (omega arith) i ∷ [])) ∙ cut-join (2 ∷ 4 ∷ []) x (sym l)
+
+bits-below : (s is : List ℕ) → bitsAt s is ≡ true → (k : ℕ) → k < length is → byteAt s (getD is k 0) ≤ 1
+unfolding bitsAt
+bits-below s [] e k h = absurd (omega arith)
+bits-below s (i ∷ is) e zero h = leb-true (byteAt s i) 1 (and-left _ _ e)
+bits-below s (i ∷ is) e (suc k) h = bits-below s is (and-right (leb (byteAt s i) 1) _ e) k (omega arith)
+
+abbrev is-whole : Found → Bool
+is-whole Whole = true
+is-whole WrongLength = false
+is-whole WrongVersion = false
+is-whole NotABoolean = false
+
+none-refused : (a b c : Bool) (t : Tag)
+    → pick a (pick b (pick c (whole t) (refusedAs NotABoolean)) (refusedAs WrongVersion)) (refusedAs WrongLength) .found ≡ Whole
+    → and a (and b c) ≡ true
+none-refused true true true t e = refl
+none-refused true true false t e = ap is-whole e
+none-refused true false c t e = ap is-whole e
+none-refused false b c t e = ap is-whole e
+
+low-byte : (s : List ℕ) (i n j : ℕ) → j < n → byteAt s (i + j) ≤ 1 → byteAt (part s i n) j ≤ 1
+low-byte s i n j h b = subst (λ m. m ≤ 1) (sym (part-at s i n j h)) b
+
+-- bytes that hold a state are its image
+pub read-image : (s : List ℕ) → AllBytes s → readIn s .found ≡ Whole → imageOf (tagIn s) ≡ s
+unfolding readIn rightLength imageOf tagIn
+read-image s a e =
+    let w = none-refused (eqb (length s) 672) (eqb (byteAt s 0) 1) (bitsAt s booleans) (tagIn s) e in
+    let l : length s ≡ 672 = eqb-true (length s) 672 (and-left _ _ w) in
+    let w′ = and-right (eqb (length s) 672) _ w in
+    let v : byteAt s 0 ≡ 1 = eqb-true (byteAt s 0) 1 (and-left _ _ w′) in
+    let bits = bits-below s booleans (and-right (eqb (byteAt s 0) 1) _ w′) in
+    let version : 1 ∷ [] ≡ part s 0 1 = (λ i. sym v i ∷ []) ∙ sym (part-tab s 0 1 (omega arith)) in
+    let f = files-kept (part s 8 500) (part-length s 8 500 (omega arith)) in
+    let k = secrets-kept (part s 508 85) (part-length s 508 85 (omega arith)) in
+    let lv = live-kept (part s 593 40) (part-length s 593 40 (omega arith)) (part-bytes s 593 40 a) (low-byte s 593 40 0 (lit< tt) (bits 0 (lit< tt))) in
+    let pd = pending-kept (part s 633 31) (part-length s 633 31 (omega arith)) (part-bytes s 633 31 a) (low-byte s 633 31 0 (lit< tt) (bits 1 (lit< tt))) (low-byte s 633 31 1 (lit< tt) (bits 2 (lit< tt))) in
+    let pl = place-kept (part s 664 2) (part-length s 664 2 (omega arith)) (low-byte s 664 2 0 (lit< tt) (bits 3 (lit< tt))) in
+    let tp = tap-kept (part s 666 6) (part-length s 666 6 (omega arith)) (part-bytes s 666 6 a) (low-byte s 666 6 0 (lit< tt) (bits 4 (lit< tt))) (low-byte s 666 6 1 (lit< tt) (bits 5 (lit< tt))) in
+    (λ i. join (version i ∷ part s 1 7 ∷ f i ∷ k i ∷ lv i ∷ pd i ∷ pl i ∷ tp i ∷ []))
+    ∙ cut-join (1 ∷ 7 ∷ 500 ∷ 85 ∷ 40 ∷ 31 ∷ 2 ∷ 6 ∷ []) s (sym l)

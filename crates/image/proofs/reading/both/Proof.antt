@@ -1,0 +1,13 @@
+-- `image::reading::both` meets its contract.
+use Rattle.base.proofs.Bytes.{tests}
+use Rattle.image.proofs.reading.both.Statement.{statement}
+use Rattle.image.proofs.reading.both.Tie as tie
+
+returns : tie.Need-returns
+returns c = search tests
+
+returns-2 : tie.Need-returns-2
+returns-2 c = search tests
+
+pub both-spec : {M : Type 1} → statement M
+both-spec = tie.close (tie.spec returns returns-2)

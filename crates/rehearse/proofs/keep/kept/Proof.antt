@@ -1,0 +1,34 @@
+-- `rehearse::keep::kept` meets its contract.
+use borrow.Author.Needs.{needs}
+use Rattle.rehearse.proofs.Keeping.{kept-is}
+use Rattle.rehearse.proofs.keep.kept.Statement.{statement}
+use Rattle.rehearse.proofs.keep.kept.Tie as tie
+
+from-image-requires : tie.Need-from-image-requires
+from-image-requires c κs = search needs
+
+sound-requires : tie.Need-sound-requires
+sound-requires c κs = search needs
+
+slice-aggregate-alike : tie.Need-slice-aggregate-alike
+slice-aggregate-alike c = search needs
+
+alike-requires : tie.Need-alike-requires
+alike-requires c κs = search needs
+
+judged-requires : tie.Need-judged-requires
+judged-requires c κs = search needs
+
+returns : tie.Need-returns
+returns c = let a = c .before .before .before .before .before .before .before .before .before .args in kept-is (a .s .now) (a .uid .now) (c .before .before .before .before .before .before .before .from-image .result) _ _ _ (c .before .before .before .before .before .before .before .from-image .ensures) (c .before .before .before .before .sound .ensures) (c .before .alike .ensures) (c .judged .ensures)
+
+pub kept-spec : {M : Type 1} → statement M
+kept-spec =
+    tie.close
+    (tie.spec
+    from-image-requires
+    sound-requires
+    slice-aggregate-alike
+    alike-requires
+    judged-requires
+    returns)

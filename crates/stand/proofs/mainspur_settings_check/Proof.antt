@@ -1,0 +1,31 @@
+-- `stand::mainspur_settings_check` meets its contract.
+use mathlib.Core.Path.{refl, sym, _∙_}
+use borrow.Author.Needs.{needs}
+use Rattle.stand.specs.Answers.{verdictWord}
+use Rattle.stand.proofs.mainspur_settings_check.Statement.{statement}
+use Rattle.stand.proofs.mainspur_settings_check.Tie as tie
+
+judge-requires : tie.Need-judge-requires
+judge-requires c κs = search needs
+
+enum-told : tie.Need-enum-told
+enum-told c = search needs
+
+enum-known-v : tie.Need-enum-known-v
+enum-known-v c = search needs
+
+status-word-requires : tie.Need-status-word-requires
+status-word-requires c κs = search needs
+
+returns : tie.Need-returns
+unfolding verdictWord
+returns c = rw (sym (c .before .before .judge .ensures) ∙ c .enum-told .given .1) refl
+
+returns-2 : tie.Need-returns-2
+unfolding verdictWord
+returns-2 c = rw (sym (c .before .before .before .before .judge .ensures) ∙ c .before .before .v .given .1) (c .status-word .ensures)
+
+pub mainspur-settings-check-spec : {M : Type 1} → statement M
+mainspur-settings-check-spec =
+    tie.close
+    (tie.spec judge-requires enum-told enum-known-v status-word-requires returns returns-2)

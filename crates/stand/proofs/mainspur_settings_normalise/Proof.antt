@@ -1,0 +1,62 @@
+-- `stand::mainspur_settings_normalise` meets its contract.
+use mathlib.Core.Path.{refl, sym, _∙_}
+use borrow.Author.Needs.{needs}
+use Rattle.stand.specs.Answers.{normalNumber}
+use Rattle.stand.proofs.mainspur_settings_normalise.Statement.{statement}
+use Rattle.stand.proofs.mainspur_settings_normalise.Tie as tie
+
+normalise-requires : tie.Need-normalise-requires
+normalise-requires c κs = search needs
+
+enum-known-n : tie.Need-enum-known-n
+enum-known-n c = search needs
+
+enum-known-n-2 : tie.Need-enum-known-n-2
+enum-known-n-2 c = search needs
+
+status-word-requires : tie.Need-status-word-requires
+status-word-requires c κs = search needs
+
+cast-result : tie.Need-cast-result
+cast-result c = search needs
+
+enum-told : tie.Need-enum-told
+enum-told c = search needs
+
+same-length : tie.Need-same-length
+same-length c = search needs
+
+returns : tie.Need-returns
+unfolding normalNumber
+returns c = (rw (sym (c .before .before .before .before .before .normalise .ensures .0) ∙ c .before .n .given .1) refl, c .before .before .before .before .before .normalise .ensures .1)
+
+same-length-2 : tie.Need-same-length-2
+same-length-2 c = search needs
+
+returns-2 : tie.Need-returns-2
+unfolding normalNumber
+returns-2 c = (rw (sym (c .before .before .before .before .before .before .normalise .ensures .0) ∙ c .before .before .n2 .given .1) (c .status-word .ensures), c .before .before .before .before .before .before .normalise .ensures .1)
+
+same-length-3 : tie.Need-same-length-3
+same-length-3 c = search needs
+
+returns-3 : tie.Need-returns-3
+unfolding normalNumber
+returns-3 c = (rw (sym (c .before .before .before .before .normalise .ensures .0) ∙ c .enum-told .given .1) refl, c .before .before .before .before .normalise .ensures .1)
+
+pub mainspur-settings-normalise-spec : {M : Type 1} → statement M
+mainspur-settings-normalise-spec =
+    tie.close
+    (tie.spec
+    normalise-requires
+    enum-known-n
+    enum-known-n-2
+    status-word-requires
+    cast-result
+    enum-told
+    same-length
+    returns
+    same-length-2
+    returns-2
+    same-length-3
+    returns-3)

@@ -1,0 +1,77 @@
+-- The C border: the number that each case is answered with, and what image and room hold then.
+use mathlib.Core.List.{List}
+use mathlib.Core.Path.{_≡_}
+use Prim.Native.Nat.{ℕ, _+_}
+use lib.ListN.{length}
+use Rattle.base.specs.Decide.{pick}
+use Rattle.settings.specs.declared.Verdict.{Verdict}
+use Rattle.settings.specs.declared.Verdict.the-variants.{Good, Refused}
+use Rattle.settings.specs.declared.Normalised.{Normalised}
+use Rattle.settings.specs.declared.Normalised.the-variants.{Normal, BadString, RoomTooSmall}
+use Rattle.settings.specs.Answers.{statusWord}
+use Rattle.state.specs.declared.Tag.{Tag}
+use Rattle.state.specs.declared.Made.{Made}
+use Rattle.state.specs.declared.Made.the-variants.{Fresh, WrongUid}
+use Rattle.state.specs.Fresh.{born}
+use Rattle.image.specs.Image.{imageOf}
+use Rattle.image.specs.Answers.{rightLength, readIn}
+use Rattle.answer.specs.Answer.{Answer}
+use Rattle.tag.specs.declared.Outcome.{Outcome}
+use Rattle.tag.specs.declared.Outcome.the-variants.{Replied, SmallRoom, WrongRandom, Unsound}
+use Rattle.tag.specs.Call.{answered, replyOf, outcomeOf, roomBy, refusalNumber}
+
+-- an image of another length than 672
+abbrev pub wrongImage : ℕ
+wrongImage = 1005
+
+-- ---- a fresh tag: 0, or 1000 and refusal 4
+abbrev pub madeNumber : Made → ℕ
+madeNumber Fresh = 0
+madeNumber WrongUid = 1004
+
+abbrev pub madeImage : Tag → List ℕ → Made → List ℕ
+madeImage t image Fresh = imageOf t
+madeImage t image WrongUid = image
+
+pub record Makes (uid image : List ℕ) (r : ℕ) (new : List ℕ) : Type 0 where
+  pub number : r ≡ pick (rightLength image) (madeNumber (born uid .made)) wrongImage
+  pub left : new ≡ pick (rightLength image) (madeImage (born uid .tag) image (born uid .made)) image
+
+-- ---- a call: the reply's length, or 1000 and the number of refusals 1 to 3
+abbrev pub callNumber : Answer → Outcome → ℕ
+callNumber a Replied = length (replyOf a)
+callNumber a SmallRoom = 1000 + refusalNumber SmallRoom
+callNumber a WrongRandom = 1000 + refusalNumber WrongRandom
+callNumber a Unsound = 1000 + refusalNumber Unsound
+
+-- the image of the next state; on a refusal the image as it was
+abbrev pub callImage : Answer → List ℕ → Outcome → List ℕ
+callImage a image Replied = imageOf (a .tag)
+callImage a image SmallRoom = image
+callImage a image WrongRandom = image
+callImage a image Unsound = image
+
+pub record Answers (t : Tag) (image c random room : List ℕ) (r : ℕ) (image′ room′ : List ℕ) : Type 0 where
+  pub number : r ≡ callNumber (answered t c random) (outcomeOf t random room)
+  pub kept : image′ ≡ callImage (answered t c random) image (outcomeOf t random room)
+  pub left : room′ ≡ roomBy (answered t c random) room (outcomeOf t random room)
+
+-- the state in an image; bytes of its length that hold none stand for a state of zeros, which is not sound
+abbrev pub stateIn : List ℕ → Tag
+stateIn image = readIn image .tag
+
+pub record Plays (image c random room : List ℕ) (r : ℕ) (image′ room′ : List ℕ) : Type 0 where
+  pub number : r ≡ pick (rightLength image) (callNumber (answered (stateIn image) c random) (outcomeOf (stateIn image) random room)) wrongImage
+  pub kept : image′ ≡ pick (rightLength image) (callImage (answered (stateIn image) c random) image (outcomeOf (stateIn image) random room)) image
+  pub left : room′ ≡ pick (rightLength image) (roomBy (answered (stateIn image) c random) room (outcomeOf (stateIn image) random room)) room
+
+-- ---- settings strings: 9100, or the status of a bad one
+unfoldable pub verdictWord : Verdict → ℕ
+verdictWord Good = 0x9100
+verdictWord (Refused e) = statusWord e
+
+-- the length of the normal string, the status of a bad one, or 1006 for a room that it doesn't fit in
+unfoldable pub normalNumber : Normalised → ℕ
+normalNumber (Normal n) = n
+normalNumber (BadString e) = statusWord e
+normalNumber RoomTooSmall = 1006

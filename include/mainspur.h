@@ -1,0 +1,62 @@
+/* Mainspur: a software NTAG 424 DNA tag, for C on x86-64 Linux. Link libstand.a (`rt staticlib stand`).
+ *
+ * A tag's state is an image of mainspur_image_length() bytes that the caller keeps (docs/IMAGE.md). Images may be copied
+ * and stored. A slice of bytes goes as a pointer and a length; a slice of length 0 needs a pointer that is not null too.
+ * Slices that a call may write must not overlap any other that it is given. No call keeps a pointer, allocates, or uses
+ * anything but its arguments. What each call answers and leaves is proved (crates/stand).
+ *
+ * The header includes nothing, so that it compiles without a C library. */
+#ifndef MAINSPUR_H
+#define MAINSPUR_H
+
+#ifdef __cplusplus
+extern "C" {
+#endif
+
+typedef __SIZE_TYPE__ mainspur_size;
+
+#define MAINSPUR_IMAGE_LENGTH 672 /* bytes of an image */
+#define MAINSPUR_ROOM 258         /* bytes that a reply room must have at least */
+#define MAINSPUR_RANDOM 20        /* random bytes of a call */
+
+/* Refusals. Every refusal leaves image and room as they were. */
+#define MAINSPUR_SMALL_ROOM 1001   /* refusal 1: reply room under 258 bytes */
+#define MAINSPUR_WRONG_RANDOM 1002 /* refusal 2: not exactly 20 random bytes */
+#define MAINSPUR_UNSOUND 1003      /* refusal 3: the image holds no sound state */
+#define MAINSPUR_WRONG_UID 1004    /* refusal 4: UID not 7 bytes, or its first byte not 04 */
+#define MAINSPUR_WRONG_IMAGE 1005  /* an image of another length than 672; this comes before refusals 1 to 4 */
+#define MAINSPUR_NO_ROOM 1006      /* a room that the normal settings string does not fit in */
+
+/* 672. */
+mainspur_size mainspur_image_length(void);
+
+/* A fresh tag with a UID.
+ * 0: the image holds the fresh tag.
+ * MAINSPUR_WRONG_IMAGE, MAINSPUR_WRONG_UID: the image is as it was. */
+mainspur_size mainspur_fresh(const unsigned char *uid, mainspur_size uid_length, unsigned char *image,
+                             mainspur_size image_length);
+
+/* The tag's answer to a command.
+ * 2 to 258: the length of the reply, data and two status bytes. It stands at the front of the room, the rest of the room
+ * is as it was, and the image holds the next state.
+ * MAINSPUR_WRONG_IMAGE, MAINSPUR_SMALL_ROOM, MAINSPUR_WRONG_RANDOM, MAINSPUR_UNSOUND, in this order: image and room are as
+ * they were. Bytes of the right length that are no image at all (another version, a Boolean over 1) are unsound. */
+mainspur_size mainspur_call(unsigned char *image, mainspur_size image_length, const unsigned char *command,
+                            mainspur_size command_length, const unsigned char *random, mainspur_size random_length,
+                            unsigned char *room, mainspur_size room_length);
+
+/* Whether a settings string is good for a file: 0x9100, or the status word 0x917E (length) or 0x919E (parameter) that
+ * ChangeFileSettings would answer. */
+unsigned short mainspur_settings_check(unsigned char file, const unsigned char *text, mainspur_size text_length);
+
+/* The normal form of a settings string.
+ * 3 to 27: its length, which is that of the string. It stands at the front of the room, and the rest is as it was.
+ * 0x917E, 0x919E (a bad string), MAINSPUR_NO_ROOM, in this order: the room is as it was. */
+mainspur_size mainspur_settings_normalise(unsigned char file, const unsigned char *text, mainspur_size text_length,
+                                          unsigned char *room, mainspur_size room_length);
+
+#ifdef __cplusplus
+}
+#endif
+
+#endif

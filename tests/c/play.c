@@ -1,0 +1,189 @@
+/* Plays a log through the image, with mainspur.h alone: a UID, then command, reply and random bytes, a line of hexadecimal
+ * each, on standard input. Before the first exchange and after the last it tries every refusal, and that image and room
+ * stay. Prints what differs, and last 'N exchanges, M differ'; the status is 1 where something differs. */
+#include "mainspur.h"
+
+/* of the C library */
+long read(int file, void *to, mainspur_size n);
+long write(int file, const void *from, mainspur_size n);
+
+typedef unsigned char byte;
+
+enum { IMAGE = MAINSPUR_IMAGE_LENGTH, BIG = 300, TEXT = 1 << 20 };
+
+static byte text[TEXT];
+static mainspur_size text_length, at;
+static unsigned long differ;
+
+static mainspur_size length_of(const char *s) {
+    mainspur_size n = 0;
+    while (s[n]) n++;
+    return n;
+}
+
+static void print(const char *s) {
+    mainspur_size n = length_of(s);
+    if (write(1, s, n) != (long)n) differ++;
+}
+
+static void print_number(unsigned long n) {
+    char digits[24];
+    int i = 23;
+    digits[i] = 0;
+    do {
+        digits[--i] = (char)('0' + n % 10);
+        n /= 10;
+    } while (n);
+    print(digits + i);
+}
+
+static int same(const byte *a, const byte *b, mainspur_size n) {
+    for (mainspur_size i = 0; i < n; i++)
+        if (a[i] != b[i]) return 0;
+    return 1;
+}
+
+static void copy(byte *to, const byte *from, mainspur_size n) {
+    for (mainspur_size i = 0; i < n; i++) to[i] = from[i];
+}
+
+static void fill(byte *to, byte b, mainspur_size n) {
+    for (mainspur_size i = 0; i < n; i++) to[i] = b;
+}
+
+static void expect(int right, const char *what) {
+    if (right) return;
+    differ++;
+    print("differs: ");
+    print(what);
+    print("\n");
+}
+
+static int digit(byte c) {
+    if (c >= '0' && c <= '9') return c - '0';
+    if (c >= 'A' && c <= 'F') return c - 'A' + 10;
+    if (c >= 'a' && c <= 'f') return c - 'a' + 10;
+    return -1;
+}
+
+/* The bytes of the next line, at most room of them; -1 at the end of the text or where a line is no hexadecimal. */
+static long next_line(byte *to, mainspur_size room) {
+    mainspur_size n = 0;
+    if (at >= text_length) return -1;
+    while (at < text_length && text[at] != '\n') {
+        int high = digit(text[at]), low = at + 1 < text_length ? digit(text[at + 1]) : -1;
+        if (high < 0 || low < 0 || n >= room) return -1;
+        to[n++] = (byte)(high * 16 + low);
+        at += 2;
+    }
+    at++;
+    return (long)n;
+}
+
+/* A call that must be refused with a number, on a copy of an image: image and room stay. */
+static void refused(const byte *image, mainspur_size image_length, mainspur_size random_length, mainspur_size room_length,
+                    mainspur_size number, const char *what) {
+    static const byte select[] = {0x00, 0xA4, 0x00, 0x0C, 0x02, 0xE1, 0x10}, random[32] = {7};
+    byte now[IMAGE], room[BIG], blank[BIG];
+    copy(now, image, IMAGE);
+    fill(room, 0xA5, BIG);
+    fill(blank, 0xA5, BIG);
+    expect(mainspur_call(now, image_length, select, sizeof select, random, random_length, room, room_length) == number, what);
+    expect(same(now, image, IMAGE), what);
+    expect(same(room, blank, BIG), what);
+}
+
+/* The same with one byte of the image changed, which makes it unsound. */
+static void unsound(const byte *image, int place, byte value, const char *what) {
+    byte bad[IMAGE];
+    copy(bad, image, IMAGE);
+    bad[place] = value;
+    refused(bad, IMAGE, 20, 258, MAINSPUR_UNSOUND, what);
+}
+
+static void call_refusals(const byte *image) {
+    byte bad[IMAGE];
+    refused(image, IMAGE, 20, 257, MAINSPUR_SMALL_ROOM, "a room of 257 bytes");
+    refused(image, IMAGE, 19, 257, MAINSPUR_SMALL_ROOM, "a room of 257 bytes before 19 random bytes");
+    refused(image, IMAGE, 19, 258, MAINSPUR_WRONG_RANDOM, "19 random bytes");
+    refused(image, IMAGE, 21, 258, MAINSPUR_WRONG_RANDOM, "21 random bytes");
+    refused(image, IMAGE - 1, 20, 258, MAINSPUR_WRONG_IMAGE, "an image of 671 bytes");
+    refused(image, 0, 19, 257, MAINSPUR_WRONG_IMAGE, "an image of no bytes, before the others");
+    unsound(image, 0, 2, "version 2");
+    unsound(image, 1, 5, "a UID that starts 05");
+    unsound(image, 593, 2, "a Boolean of 2");
+    unsound(image, 671, 1, "a tap counter over 16,777,215");
+    unsound(image, 665, 4, "file 4 selected");
+    unsound(image, 505, 2, "a settings string of 2 bytes");
+    copy(bad, image, IMAGE);
+    fill(bad + 593, 0, IMAGE - 593 - 4);
+    bad[593] = 1; /* a session */
+    bad[664] = 1; /* the application */
+    bad[594] = 9;
+    refused(bad, IMAGE, 20, 258, MAINSPUR_UNSOUND, "key number 9 in a session");
+    refused(bad, IMAGE, 19, 258, MAINSPUR_WRONG_RANDOM, "19 random bytes before an unsound image");
+}
+
+static void fresh_refusals(void) {
+    static const byte right[7] = {4, 1, 2, 3, 4, 5, 6}, other[7] = {5, 1, 2, 3, 4, 5, 6};
+    byte image[IMAGE], blank[IMAGE];
+    fill(image, 0xA5, IMAGE);
+    fill(blank, 0xA5, IMAGE);
+    expect(mainspur_fresh(right, 6, image, IMAGE) == MAINSPUR_WRONG_UID, "a UID of 6 bytes");
+    expect(mainspur_fresh(other, 7, image, IMAGE) == MAINSPUR_WRONG_UID, "a fresh UID that starts 05");
+    expect(mainspur_fresh(right, 7, image, IMAGE - 1) == MAINSPUR_WRONG_IMAGE, "a fresh image of 671 bytes");
+    expect(same(image, blank, IMAGE), "an image after a refused fresh tag");
+    expect(mainspur_image_length() == IMAGE, "the length of an image");
+}
+
+static void settings_strings(void) {
+    byte good[15] = {0x40, 0x00, 0xE0, 0xC1, 0xF1, 0x21, 0x20, 0, 0, 0x43, 0, 0, 0x43, 0, 0};
+    byte room[BIG], blank[BIG];
+    fill(room, 0xA5, BIG);
+    fill(blank, 0xA5, BIG);
+    expect(mainspur_settings_check(2, good, 15) == 0x9100, "a good settings string");
+    expect(mainspur_settings_check(3, good, 15) == 0x919E, "SDM on file 3");
+    expect(mainspur_settings_check(2, good, 14) == 0x917E, "a settings string that is cut");
+    expect(mainspur_settings_normalise(2, good, 15, room, 14) == MAINSPUR_NO_ROOM, "a room of 14 bytes");
+    expect(mainspur_settings_normalise(2, good, 14, room, BIG) == 0x917E, "normalising a settings string that is cut");
+    expect(same(room, blank, BIG), "a room after a refused settings string");
+    good[4] = 0x01;
+    expect(mainspur_settings_normalise(2, good, 15, room, BIG) == 15, "a settings string to be normalised");
+    good[4] = 0xF1;
+    expect(same(room, good, 15) && same(room + 15, blank + 15, BIG - 15), "the normal settings string");
+    good[9] = good[12] = 63;
+    expect(mainspur_settings_check(2, good, 15) == 0x919E, "MAC offset 63");
+}
+
+int main(void) {
+    byte uid[16], image[IMAGE], command[BIG], reply[BIG], random[BIG], room[BIG], blank[BIG];
+    unsigned long exchanges = 0, wrong = 0;
+    long n;
+    while (text_length < TEXT && (n = read(0, text + text_length, TEXT - text_length)) > 0) text_length += (mainspur_size)n;
+    fresh_refusals();
+    settings_strings();
+    n = next_line(uid, sizeof uid);
+    expect(n >= 0 && mainspur_fresh(uid, (mainspur_size)n, image, IMAGE) == 0, "the fresh tag");
+    if (differ) return 1;
+    call_refusals(image);
+    fill(blank, 0xA5, BIG);
+    for (;;) {
+        long c = next_line(command, BIG), r = next_line(reply, BIG), k = next_line(random, BIG);
+        if (c < 0 || r < 0 || k < 0) break;
+        fill(room, 0xA5, BIG);
+        mainspur_size got = mainspur_call(image, IMAGE, command, (mainspur_size)c, random, (mainspur_size)k, room, BIG);
+        exchanges++;
+        if (got == (mainspur_size)r && same(room, reply, got) && same(room + got, blank + got, BIG - got)) continue;
+        wrong++;
+        print("differs: exchange ");
+        print_number(exchanges);
+        print("\n");
+    }
+    expect(at >= text_length && text_length < TEXT, "the log was not read to its end");
+    call_refusals(image);
+    print_number(exchanges);
+    print(" exchanges, ");
+    print_number(wrong + differ);
+    print(" differ\n");
+    return wrong + differ != 0;
+}
