@@ -4,7 +4,8 @@ use mathlib.Core.Bool.{true, false}
 use mathlib.Core.List.{List}
 use Prim.Native.Nat.{ℕ}
 use lib.ListN.{length}
-use borrow.Author.Tests.{eq-eqb, ne-eqb}
+use lib.Dec.{leb}
+use borrow.Author.Tests.{eq-eqb, ne-eqb, le-leb}
 use Rattle.state.specs.declared.Tag.{Tag}
 use Rattle.state.specs.declared.Birth.{Birth}
 use Rattle.state.specs.declared.Made.{Made}
@@ -16,7 +17,7 @@ use Rattle.tag.specs.declared.Outcome.{Outcome}
 use Rattle.tag.specs.declared.Outcome.the-variants.{Replied, SmallRoom, WrongRandom, Unsound}
 use Rattle.tag.specs.declared.Called.{Called}
 use Rattle.tag.specs.Call.{answered, replied, unanswered, outcomeOf, byOutcome, Calls}
-use Rattle.stand.specs.Answers.{madeNumber, madeImage, Makes, callNumber, callImage, Answers, stateIn, Plays}
+use Rattle.stand.specs.Answers.{madeNumber, madeImage, Makes, callNumber, callImage, isReply, Answers, stateIn, Plays}
 
 right : (s : List ℕ) → length s ≡ 672 → rightLength s ≡ true
 unfolding rightLength
@@ -66,13 +67,14 @@ module _ (t : Tag) (s c random room : List ℕ) (d : Called) (s′ room′ : Lis
 
   -- by its outcome
   pub answers : (r : ℕ) (x : Outcome) → d .outcome ≡ x → r ≡ callNumber (answered t c random) x
-      → s′ ≡ callImage (answered t c random) s x → Answers t s c random room r s′ room′
-  answers r x e p q =
+      → s′ ≡ callImage (answered t c random) s x → leb r 258 ≡ isReply x → Answers t s c random room r s′ room′
+  answers r x e p q a =
       let w = sym (outcome-was x e) in
       record {
         number = p ∙ ap (λ o. callNumber (answered t c random) o) w;
         kept = q ∙ ap (λ o. callImage (answered t c random) s o) w;
         left = k .left;
+        apart = a ∙ ap isReply w;
       }
 
   -- a reply
@@ -81,12 +83,19 @@ module _ (t : Tag) (s c random room : List ℕ) (d : Called) (s′ room′ : Lis
       let g : d ≡ replied (answered t c random) = k .told ∙ ap (λ o. byOutcome t (answered t c random) o) (outcome-was Replied e) in
       answers (d .length) Replied e (ap (λ z. z .length) g ∙ length-is (answered t c random) s)
       (image-laid (d .tag) s s′ l q ∙ ap (λ z. imageOf (z .tag)) g ∙ tag-is (answered t c random) s)
+      (le-leb (d .length) 258 (k .short))
 
 pub wrong-plays : (s c random room : List ℕ) → (length s ≡ 672 → ⊥) → Plays s c random room 1005 s room
-wrong-plays s c random room h = record { number = rw (wrong s h) refl; kept = rw (wrong s h) refl; left = rw (wrong s h) refl }
+wrong-plays s c random room h =
+    record { number = rw (wrong s h) refl; kept = rw (wrong s h) refl; left = rw (wrong s h) refl; apart = rw (wrong s h) refl }
 
 pub plays : (s c random room : List ℕ) (r : ℕ) (s′ room′ : List ℕ) (t : Tag) → length s ≡ 672 → t ≡ stateIn s
     → Answers t s c random room r s′ room′ → Plays s c random room r s′ room′
 plays s c random room r s′ room′ t l e h =
     let g = subst (λ x. Answers x s c random room r s′ room′) e h in
-    record { number = rw (right s l) (g .number); kept = rw (right s l) (g .kept); left = rw (right s l) (g .left) }
+    record {
+      number = rw (right s l) (g .number);
+      kept = rw (right s l) (g .kept);
+      left = rw (right s l) (g .left);
+      apart = rw (right s l) (g .apart);
+    }

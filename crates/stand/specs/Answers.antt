@@ -1,9 +1,11 @@
 -- The C border: the number that each case is answered with, and what image and room hold then.
+use mathlib.Core.Bool.{Bool, true, false}
 use mathlib.Core.List.{List}
 use mathlib.Core.Path.{_≡_}
 use Prim.Native.Nat.{ℕ, _+_}
+use lib.Dec.{leb}
 use lib.ListN.{length}
-use Rattle.base.specs.Decide.{pick}
+use Rattle.base.specs.Decide.{pick, and}
 use Rattle.settings.specs.declared.Verdict.{Verdict}
 use Rattle.settings.specs.declared.Verdict.the-variants.{Good, Refused}
 use Rattle.settings.specs.declared.Normalised.{Normalised}
@@ -44,6 +46,13 @@ callNumber a SmallRoom = 1000 + refusalNumber SmallRoom
 callNumber a WrongRandom = 1000 + refusalNumber WrongRandom
 callNumber a Unsound = 1000 + refusalNumber Unsound
 
+-- a number up to 258 is a reply's length, any other a refusal
+abbrev pub isReply : Outcome → Bool
+isReply Replied = true
+isReply SmallRoom = false
+isReply WrongRandom = false
+isReply Unsound = false
+
 -- the image of the next state; on a refusal the image as it was
 abbrev pub callImage : Answer → List ℕ → Outcome → List ℕ
 callImage a image Replied = imageOf (a .tag)
@@ -55,6 +64,7 @@ pub record Answers (t : Tag) (image c random room : List ℕ) (r : ℕ) (image�
   pub number : r ≡ callNumber (answered t c random) (outcomeOf t random room)
   pub kept : image′ ≡ callImage (answered t c random) image (outcomeOf t random room)
   pub left : room′ ≡ roomBy (answered t c random) room (outcomeOf t random room)
+  pub apart : leb r 258 ≡ isReply (outcomeOf t random room)
 
 -- the state in an image; bytes of its length that hold none stand for a state of zeros, which is not sound
 abbrev pub stateIn : List ℕ → Tag
@@ -64,6 +74,7 @@ pub record Plays (image c random room : List ℕ) (r : ℕ) (image′ room′ : 
   pub number : r ≡ pick (rightLength image) (callNumber (answered (stateIn image) c random) (outcomeOf (stateIn image) random room)) wrongImage
   pub kept : image′ ≡ pick (rightLength image) (callImage (answered (stateIn image) c random) image (outcomeOf (stateIn image) random room)) image
   pub left : room′ ≡ pick (rightLength image) (roomBy (answered (stateIn image) c random) room (outcomeOf (stateIn image) random room)) room
+  pub apart : leb r 258 ≡ and (rightLength image) (isReply (outcomeOf (stateIn image) random room))
 
 -- ---- settings strings: 9100, or the status of a bad one
 unfoldable pub verdictWord : Verdict → ℕ

@@ -65,7 +65,7 @@ pub laid-reply : (text : List ℕ) (n s : ℕ) (old mid new : List ℕ) → leng
 unfolding withStatus
 laid-reply text n s old mid new e f r p q =
     let h = also (also (none old) text n (omega arith) (omega arith) p) ((s / 256 % 256) ∷ (s % 256) ∷ []) (n + 2) (omega arith) (omega arith) q in
-    record { count = h .len; room = h .is }
+    record { count = h .len; room = h .is; short = omega arith }
 
 -- what the code's answer says is the reply
 pub replies : (a : Answer) (d : Done) (old new : List ℕ) (n : ℕ) → Gives a d → Laid (withStatus (take (d .length) (d .bytes)) (d .status)) old n new
@@ -75,6 +75,7 @@ replies a d old new n g h =
     record {
       told = ap (λ k. record { outcome = Replied; length = k; tag = d .tag }) (h .count) ∙ ap replied (g .says);
       left = h .room ∙ ap (λ x. over (replyOf x) old) (g .says);
+      short = h .short;
     }
 
 -- ---- the outcome
@@ -111,14 +112,20 @@ outcome-number t a SmallRoom = refl
 outcome-number t a WrongRandom = refl
 outcome-number t a Unsound = refl
 
+-- a refusal has length 0
+pub no-length : (o : Outcome) (t : Tag) (r : Called) → r ≡ unanswered o t → r .length ≤ 258
+unfolding unanswered
+no-length o t r e = let q : r .length ≡ 0 = ap (λ (x : Called). x .length) e in omega arith
+
 -- a call by its outcome
 pub calls : (t : Tag) (c random old : List ℕ) (r : Called) (new : List ℕ) (o : Outcome) → outcomeOf t random old ≡ o
-    → r ≡ byOutcome t (answered t c random) o → new ≡ roomBy (answered t c random) old o → Calls t c random old r new
-calls t c random old r new o e p q =
+    → r ≡ byOutcome t (answered t c random) o → new ≡ roomBy (answered t c random) old o → r .length ≤ 258 → Calls t c random old r new
+calls t c random old r new o e p q l =
     record {
       number = ap (λ (x : Called). refusalNumber (x .outcome)) p ∙ outcome-number t (answered t c random) o ∙ ap refusalNumber (sym e) ∙ number-is t random old;
       told = rw e p;
       left = rw e q;
+      short = l;
     }
 
 -- refusal 4 is the fresh tag's

@@ -1,7 +1,7 @@
 -- A call: refusals 1 to 3, step 1, and the reply in the room.
 use mathlib.Core.List.{List, [], _∷_, _++_}
 use mathlib.Core.Path.{_≡_}
-use Prim.Native.Nat.{ℕ, _/_, _%_}
+use Prim.Native.Nat.{ℕ, _/_, _%_, _≤_}
 use lib.Dec.{eqb, ltb}
 use lib.ListN.{length}
 use Rattle.base.specs.Decide.{pick, or}
@@ -72,17 +72,21 @@ roomBy a room SmallRoom = room
 roomBy a room WrongRandom = room
 roomBy a room Unsound = room
 
+-- a reply fits into the 258 bytes that a room must have
 pub record Calls (t : Tag) (c random old : List ℕ) (r : Called) (new : List ℕ) : Type 0 where
   pub number : refusalNumber (r .outcome) ≡ refusalOf t random old
   pub told : r ≡ byOutcome t (answered t c random) (outcomeOf t random old)
   pub left : new ≡ roomBy (answered t c random) old (outcomeOf t random old)
+  pub short : r .length ≤ 258
 
 -- a text at the front of the room, and its length
 pub record Laid (text old : List ℕ) (n : ℕ) (new : List ℕ) : Type 0 where
   pub count : n ≡ length text
   pub room : new ≡ over text old
+  pub short : n ≤ 258
 
 -- an answer as a reply
 pub record Replies (a : Answer) (old : List ℕ) (r : Called) (new : List ℕ) : Type 0 where
   pub told : r ≡ replied a
   pub left : new ≡ over (replyOf a) old
+  pub short : r .length ≤ 258

@@ -3,7 +3,7 @@ use mathlib.Core.Path.{refl, sym, ap, _∙_}
 use borrow.Author.Needs.{needs}
 use Rattle.base.specs.Decide.{pick}
 use Rattle.tag.specs.declared.Outcome.the-variants.{Replied, SmallRoom, WrongRandom, Unsound}
-use Rattle.tag.proofs.Calling.{small-room, wrong-random, sound-or-not, calls}
+use Rattle.tag.proofs.Calling.{small-room, wrong-random, sound-or-not, no-length, calls}
 use Rattle.tag.proofs.entry.call.Statement.{statement}
 use Rattle.tag.proofs.entry.call.Tie as tie
 
@@ -13,6 +13,7 @@ unanswered-requires c κs = search needs
 returns : tie.Need-returns
 returns c = let a = c .before .before .before .before .before .args in
     calls (a .tag) (a .command .now) (a .random .now) (a .room .now) _ _ SmallRoom (small-room (a .tag) (a .random .now) (a .room .now) (c .before .if1 .taken)) (c .unanswered .ensures) refl
+    (no-length SmallRoom (a .tag) _ (c .unanswered .ensures))
 
 unanswered-requires-2 : tie.Need-unanswered-requires-2
 unanswered-requires-2 c κs = search needs
@@ -20,6 +21,7 @@ unanswered-requires-2 c κs = search needs
 returns-2 : tie.Need-returns-2
 returns-2 c = let a = c .before .before .before .before .before .before .args in
     calls (a .tag) (a .command .now) (a .random .now) (a .room .now) _ _ WrongRandom (wrong-random (a .tag) (a .random .now) (a .room .now) (c .before .before .if1 .left) (c .before .if2 .taken)) (c .unanswered2 .ensures) refl
+    (no-length WrongRandom (a .tag) _ (c .unanswered2 .ensures))
 
 sound-requires : tie.Need-sound-requires
 sound-requires c κs = search needs
@@ -34,7 +36,7 @@ returns-3 : tie.Need-returns-3
 returns-3 c = let a = c .before .before .before .before .before .before .before .before .before .before .before .args in
     calls (a .tag) (a .command .now) (a .random .now) (a .room .now) _ _ Replied
     (sound-or-not (a .tag) (a .random .now) (a .room .now) (c .before .before .before .before .before .before .before .if1 .left) (c .before .before .before .before .before .before .if2 .left) ∙ ap (λ b. pick b Replied Unsound) (sym (c .before .before .before .before .before .sound .ensures) ∙ c .before .before .before .before .if3 .taken))
-    (c .before .before .reply .ensures .told) (c .before .before .reply .ensures .left)
+    (c .before .before .reply .ensures .told) (c .before .before .reply .ensures .left) (c .before .before .reply .ensures .short)
 
 unanswered-requires-3 : tie.Need-unanswered-requires-3
 unanswered-requires-3 c κs = search needs
@@ -43,7 +45,7 @@ returns-4 : tie.Need-returns-4
 returns-4 c = let a = c .before .before .before .before .before .before .before .before .args in
     calls (a .tag) (a .command .now) (a .random .now) (a .room .now) _ _ Unsound
     (sound-or-not (a .tag) (a .random .now) (a .room .now) (c .before .before .before .before .if1 .left) (c .before .before .before .if2 .left) ∙ ap (λ b. pick b Replied Unsound) (sym (c .before .before .sound .ensures) ∙ c .before .if3 .left))
-    (c .unanswered3 .ensures) refl
+    (c .unanswered3 .ensures) refl (no-length Unsound (a .tag) _ (c .unanswered3 .ensures))
 
 pub call-spec : {M : Type 1} → statement M
 call-spec =
