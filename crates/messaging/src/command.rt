@@ -13,7 +13,7 @@ use crate::Opened;
 use crate::Session;
 use crate::Unpadded;
 use crate::padding::unpad;
-use crate::protect::command_iv;
+use crate::protect::command_vector;
 use crate::protect::message_mac;
 
 // How many bytes of MAC end a command.
@@ -90,9 +90,9 @@ fn give_opened(s: Session, part: &mut [u8], room: &mut [u8]) -> Opened
     requires { ⌜ (length (now part) ≤ length (now room)) × (length (now part) % 16 ≡ 0) ⌝ }
     ensures { λ r. ⌜ Gives (content Full s (commandIv s) true (now (part .entry))) (now (room .entry)) r (now (room .exit)) ⌝ }
 {
-    let iv = command_iv(s);
     let key = s.enc;
     let w = aes::expand(key);
+    let iv = command_vector(&w, s);
     aes::cbc_decrypt(&w, iv, part);
     give_text(part, room)
 }

@@ -35,9 +35,9 @@ pub fn message_mac(s: Session, first: u8, body: &[u8]) -> [u8; 8]
     mac_over(key, first, s.counter, ti, body)
 }
 
-// A vector, for a label.
-fn vector(l: u8, m: u8, key: [u8; 16], ti: [u8; 4], counter: u16) -> [u8; 16]
-    ensures { λ r. ⌜ r ≡ cipher (keyExpansion key) (l ∷ m ∷ ti ++ low 2 counter ++ replicate 8 0) ⌝ }
+// A vector under round keys, for a label.
+fn vector(w: &[[u8; 16]; 11], l: u8, m: u8, ti: [u8; 4], counter: u16) -> [u8; 16]
+    ensures { λ r. ⌜ r ≡ cipher (now (w .entry)) (l ∷ m ∷ ti ++ low 2 counter ++ replicate 8 0) ⌝ }
 {
     let low = (counter % 256) as u8;
     let high = (counter / 256 % 256) as u8;
@@ -59,8 +59,25 @@ fn vector(l: u8, m: u8, key: [u8; 16], ti: [u8; 4], counter: u16) -> [u8; 16]
         0,
         0,
     ];
-    let w = aes::expand(key);
-    aes::encrypt(&w, b)
+    aes::encrypt(w, b)
+}
+
+// The vector of a command's data, under the round keys of the session.
+pub fn command_vector(w: &[[u8; 16]; 11], s: Session) -> [u8; 16]
+    requires { ⌜ now w ≡ keyExpansion (s .enc) ⌝ }
+    ensures { λ r. ⌜ r ≡ commandIv s ⌝ }
+{
+    let ti = s.ti;
+    vector(w, 0xA5, 0x5A, ti, s.counter)
+}
+
+// The vector of a reply's data, under the round keys of the session.
+pub fn reply_vector(w: &[[u8; 16]; 11], s: Session) -> [u8; 16]
+    requires { ⌜ now w ≡ keyExpansion (s .enc) ⌝ }
+    ensures { λ r. ⌜ r ≡ replyIv s ⌝ }
+{
+    let ti = s.ti;
+    vector(w, 0x5A, 0xA5, ti, s.counter)
 }
 
 // The vector of a command's data.
@@ -68,8 +85,8 @@ pub fn command_iv(s: Session) -> [u8; 16]
     ensures { λ r. ⌜ r ≡ commandIv s ⌝ }
 {
     let key = s.enc;
-    let ti = s.ti;
-    vector(0xA5, 0x5A, key, ti, s.counter)
+    let w = aes::expand(key);
+    command_vector(&w, s)
 }
 
 // The vector of a reply's data.
@@ -77,6 +94,6 @@ pub fn reply_iv(s: Session) -> [u8; 16]
     ensures { λ r. ⌜ r ≡ replyIv s ⌝ }
 {
     let key = s.enc;
-    let ti = s.ti;
-    vector(0x5A, 0xA5, key, ti, s.counter)
+    let w = aes::expand(key);
+    reply_vector(&w, s)
 }

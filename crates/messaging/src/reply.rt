@@ -12,7 +12,7 @@ use crate::Mode;
 use crate::Session;
 use crate::padding::pad;
 use crate::protect::message_mac;
-use crate::protect::reply_iv;
+use crate::protect::reply_vector;
 
 // How long n bytes are, closed.
 fn closed_length(m: Mode, n: usize) -> usize
@@ -51,9 +51,9 @@ fn hide(s: Session, room: &mut [u8], n: usize) -> usize
     }
     pad(room, n);
     let e = n / 16 * 16 + 16;
-    let iv = reply_iv(s);
     let key = s.enc;
     let w = aes::expand(key);
+    let iv = reply_vector(&w, s);
     aes::cbc_encrypt(&w, iv, &mut room[..e]);
     e
 }

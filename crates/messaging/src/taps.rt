@@ -2,9 +2,10 @@
 ghost use mathlib.Core.Path.{_≡_};
 ghost use mathlib.Core.List.{_∷_, _++_};
 ghost use Prim.Native.Nat.{_-_, _≤_};
-ghost use lib.ListN.{take};
+ghost use lib.ListN.{take, replicate};
 ghost use Rattle.base.specs.Decide.{pick};
 ghost use Rattle.base.specs.Bytes.{low};
+ghost use Rattle.aes.specs.Block.{cipher};
 ghost use Rattle.messaging.specs.Protect.{mac};
 ghost use Rattle.messaging.specs.Tap.{mirrored, Mirrors, piccTag, piccData, tapKeys, tapIv, Hides};
 use crate::Keys;
@@ -119,22 +120,29 @@ pub fn tap_keys(key: [u8; 16], t: Tap) -> Keys
     Keys { enc, mac }
 }
 
+// The vector of ENC, under round keys.
+fn tap_vector(w: &[[u8; 16]; 11], counter: u32) -> [u8; 16]
+    ensures { λ r. ⌜ r ≡ cipher (now (w .entry)) (low 3 counter ++ replicate 13 0) ⌝ }
+{
+    let c = three(counter);
+    let b = [c[0], c[1], c[2], 0, 0, 0, 0, 0, 0, 0, 0, 0, 0, 0, 0, 0];
+    aes::encrypt(w, b)
+}
+
 // The vector of ENC.
 pub fn tap_iv(key: [u8; 16], counter: u32) -> [u8; 16]
     ensures { λ r. ⌜ r ≡ tapIv key counter ⌝ }
 {
-    let c = three(counter);
-    let b = [c[0], c[1], c[2], 0, 0, 0, 0, 0, 0, 0, 0, 0, 0, 0, 0, 0];
     let w = aes::expand(key);
-    aes::encrypt(&w, b)
+    tap_vector(&w, counter)
 }
 
 // Encrypts the text of ENC in place; answers whether it was whole blocks.
 pub fn tap_encrypt(key: [u8; 16], counter: u32, text: &mut [u8]) -> bool
     ensures { λ r. ⌜ Hides key counter (now (text .entry)) r (now (text .exit)) ⌝ }
 {
-    let iv = tap_iv(key, counter);
     let w = aes::expand(key);
+    let iv = tap_vector(&w, counter);
     let whole = text.len() % 16 == 0;
     aes::cbc_encrypt(&w, iv, text);
     whole

@@ -8,11 +8,11 @@ use borrow.Author.Needs.{needs}
 use Rattle.messaging.proofs.command.give_opened.Statement.{statement}
 use Rattle.messaging.proofs.command.give_opened.Tie as tie
 
-command-iv-requires : tie.Need-command-iv-requires
-command-iv-requires c κs = search needs
-
 expand-requires : tie.Need-expand-requires
 expand-requires c κs = search needs
+
+command-vector-requires : tie.Need-command-vector-requires
+command-vector-requires c κs = search needs
 
 cbc-decrypt-requires : tie.Need-cbc-decrypt-requires
 cbc-decrypt-requires c κs = search needs
@@ -27,16 +27,16 @@ same-length-2 : tie.Need-same-length-2
 same-length-2 c = search needs
 
 returns : tie.Need-returns
-returns c = let a = c .before .before .before .before .before .before .before .before .before .before .before .before .before .before .before .args in subst (λ o. Gives o (a .room .now) (c .before .before .give-text .result) (c .before .before .give-text .last .1 .0))
-    (hidden-content (a .s) (a .part .now) (c .before .before .before .before .before .before .before .cbc-decrypt .last .1 .1 .0) (chained (c .before .before .before .before .before .before .before .cbc-decrypt .ensures) (c .before .before .before .before .before .before .before .before .before .before .before .before .before .before .before .pre .1) ∙ ap₂ (λ w v. cbcBack w v (a .part .now)) (c .before .before .before .before .before .before .before .before .before .before .expand .ensures) (c .before .before .before .before .before .before .before .before .before .before .before .before .command-iv .ensures)))
+returns c = let a = c .before .before .before .before .before .before .before .before .before .before .before .before .before .before .before .before .args in subst (λ o. Gives o (a .room .now) (c .before .before .give-text .result) (c .before .before .give-text .last .1 .0))
+    (hidden-content (a .s) (a .part .now) (c .before .before .before .before .before .before .before .cbc-decrypt .last .1 .1 .0) (chained (c .before .before .before .before .before .before .before .cbc-decrypt .ensures) (c .before .before .before .before .before .before .before .before .before .before .before .before .before .before .before .before .pre .1) ∙ ap₂ (λ w v. cbcBack w v (a .part .now)) (c .before .before .before .before .before .before .before .before .before .before .before .before .expand .ensures) (c .before .before .before .before .before .before .before .before .before .before .command-vector .ensures)))
     (c .before .before .give-text .ensures)
 
 pub give-opened-spec : {M : Type 1} → statement M
 give-opened-spec =
     tie.close
     (tie.spec
-    command-iv-requires
     expand-requires
+    command-vector-requires
     cbc-decrypt-requires
     give-text-requires
     same-length

@@ -2,7 +2,7 @@
 use mathlib.Core.List.{_∷_, _++_}
 use Rattle.messaging.proofs.Pieces.{tab-of}
 use Rattle.aes.specs.Block.{cipher}
-use mathlib.Core.Path.{_≡_, _∙_, ap₂}
+use mathlib.Core.Path.{_≡_, _∙_, ap}
 use Rattle.base.specs.Bytes.{low}
 use lib.ListN.{length, replicate}
 use borrow.Author.Needs.{needs}
@@ -15,28 +15,25 @@ cast-low c = search needs
 cast-high : tie.Need-cast-high
 cast-high c = search needs
 
-array-read-t15 : tie.Need-array-read-t15
-array-read-t15 c = search needs
+array-read-t14 : tie.Need-array-read-t14
+array-read-t14 c = search needs
 
-array-read-t18 : tie.Need-array-read-t18
-array-read-t18 c = search needs
+array-read-t17 : tie.Need-array-read-t17
+array-read-t17 c = search needs
 
-array-read-t21 : tie.Need-array-read-t21
-array-read-t21 c = search needs
+array-read-t20 : tie.Need-array-read-t20
+array-read-t20 c = search needs
 
-array-read-t24 : tie.Need-array-read-t24
-array-read-t24 c = search needs
-
-expand-requires : tie.Need-expand-requires
-expand-requires c κs = search needs
+array-read-t23 : tie.Need-array-read-t23
+array-read-t23 c = search needs
 
 encrypt-requires : tie.Need-encrypt-requires
 encrypt-requires c κs = search needs
 
 returns : tie.Need-returns
 unfolding low
-returns c = let a = c .before .before .before .args in let l : length (a .t4) ≡ 4 = search needs in
-    c .encrypt .ensures ∙ ap₂ (λ w t. cipher w (a .l ∷ a .m ∷ t ++ low 2 (a .counter) ++ replicate 8 0)) (c .before .before .expand .ensures) (tab-of 4 (a .t4) l)
+returns c = let a = c .before .args in let l : length (a .t4) ≡ 4 = search needs in
+    c .encrypt .ensures ∙ ap (λ t. cipher (a .w .now) (a .l ∷ a .m ∷ t ++ low 2 (a .counter) ++ replicate 8 0)) (tab-of 4 (a .t4) l)
 
 pub vector-spec : {M : Type 1} → statement M
 vector-spec =
@@ -44,10 +41,9 @@ vector-spec =
     (tie.spec
     cast-low
     cast-high
-    array-read-t15
-    array-read-t18
-    array-read-t21
-    array-read-t24
-    expand-requires
+    array-read-t14
+    array-read-t17
+    array-read-t20
+    array-read-t23
     encrypt-requires
     returns)

@@ -1,16 +1,21 @@
 -- `messaging::taps::tap_encrypt` meets its contract: as chaining has it.
+use mathlib.Core.List.{_++_}
+use lib.ListN.{replicate}
+use Rattle.base.specs.Bytes.{low}
+use Rattle.messaging.specs.Tap.{tapIv}
+use Rattle.aes.specs.Block.{cipher}
 use Rattle.aes.specs.Cbc.{cbcOut, whole}
 use Rattle.base.specs.Decide.{pick}
-use mathlib.Core.Path.{refl, ap₂, _∙_}
+use mathlib.Core.Path.{refl, ap, ap₂, _∙_}
 use borrow.Author.Needs.{needs}
 use Rattle.messaging.proofs.taps.tap_encrypt.Statement.{statement}
 use Rattle.messaging.proofs.taps.tap_encrypt.Tie as tie
 
-tap-iv-requires : tie.Need-tap-iv-requires
-tap-iv-requires c κs = search needs
-
 expand-requires : tie.Need-expand-requires
 expand-requires c κs = search needs
+
+tap-vector-requires : tie.Need-tap-vector-requires
+tap-vector-requires c κs = search needs
 
 cbc-encrypt-requires : tie.Need-cbc-encrypt-requires
 cbc-encrypt-requires c κs = search needs
@@ -19,8 +24,10 @@ same-length : tie.Need-same-length
 same-length c = search needs
 
 returns : tie.Need-returns
-returns c = let x = c .before .before .before .before .before .before .before .before .args .text .now in record { answer = refl; text = c .before .before .cbc-encrypt .ensures .left ∙ ap₂ (λ w v. pick (whole x) (cbcOut w v x) x) (c .before .before .before .before .before .expand .ensures) (c .before .before .before .before .before .before .tap-iv .ensures) }
+unfolding tapIv
+returns c = let x = c .before .before .before .before .before .before .before .before .before .args .text .now in record { answer = refl; text = c .before .before .cbc-encrypt .ensures .left ∙ ap₂ (λ w v. pick (whole x) (cbcOut w v x) x) (c .before .before .before .before .before .before .before .expand .ensures) (c .before .before .before .before .before .tap-vector .ensures ∙ ap (λ w. cipher w (low 3 (c .before .before .before .before .before .before .before .before .before .args .counter) ++ replicate 13 0)) (c .before .before .before .before .before .before .before .expand .ensures)) }
 
 pub tap-encrypt-spec : {M : Type 1} → statement M
 tap-encrypt-spec =
-    tie.close (tie.spec tap-iv-requires expand-requires cbc-encrypt-requires same-length returns)
+    tie.close
+    (tie.spec expand-requires tap-vector-requires cbc-encrypt-requires same-length returns)
