@@ -4,16 +4,15 @@ use mathlib.Core.List.{List, [], _∷_, _++_}
 use Prim.Native.Nat.{ℕ, _+_, _*_, _/_, _%_, _<_}
 use native.Mathlib.Omega.{arith}
 use lib.Bits.{xor-comm, xor-mod, xor-shr}
-use lib.ListN.{length}
 use Rattle.base.specs.Bytes.{byteAt, AllBytes, tab}
 use Rattle.sbox.specs.Field.{_⊕_, mul}
 use Rattle.sbox.specs.Columns.{mixed, unmixed}
-use Rattle.sbox.specs.Tables.{sbox, invSbox}
-use Rattle.sbox.specs.Words.{packed, mixes, mixingTable, unmixes, unmixingTable}
+use Rattle.sbox.specs.Tables.{sbox}
+use Rattle.sbox.specs.Words.{packed, mixingTable, unmixingTable}
 use Rattle.sbox.proofs.Linear.{xor-assoc, mul-byte}
-use Rattle.sbox.proofs.Rule.{sbox-bytes, invSbox-bytes}
+use Rattle.sbox.proofs.Rule.{sbox-bytes}
 use Rattle.sbox.proofs.Words.{mixing-at, unmixing-at}
-use Rattle.aes.specs.Block.{IsBlock, xorBlock, substitute, shiftRows, invShiftRows, mixColumns, invMixColumns, addRoundKey}
+use Rattle.aes.specs.Block.{IsBlock, xorBlock, substitute, shiftRows, invShiftRows, mixColumns, invMixColumns}
 use Rattle.aes.specs.Words.{rows, blockOf, turn, columnOf, pickedOf}
 use Rattle.aes.proofs.Steps.{block-table}
 

@@ -1,7 +1,7 @@
 // The block, both ways (FIPS 197, sections 5.1 and 5.3), as four words, one for each column. The tables are loaded once at
 // an entry and lent on.
 ghost use mathlib.Core.Path.{_≡_};
-ghost use Prim.Native.Nat.{_/_, _%_, _<_};
+ghost use Prim.Native.Nat.{_%_, _<_};
 ghost use Rattle.base.specs.Bytes.{byteAt};
 ghost use Rattle.sbox.specs.Field.{xtime};
 ghost use Rattle.sbox.specs.Tables.{sbox, invSbox};
