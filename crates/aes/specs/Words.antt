@@ -3,6 +3,7 @@ use mathlib.Core.List.{List, [], _∷_, _++_}
 use Prim.Native.Nat.{ℕ, _+_, _*_, _/_, _%_}
 use Rattle.base.specs.Bytes.{byteAt}
 use Rattle.sbox.specs.Field.{_⊕_}
+use Rattle.sbox.specs.Words.{packed}
 
 -- the four bytes of a word
 unfoldable pub rows : ℕ → List ℕ
@@ -25,4 +26,4 @@ columnOf t a b c d =
 -- the word of a table's bytes for row 0 of a, row 1 of b, row 2 of c and row 3 of d
 unfoldable pub pickedOf : List ℕ → ℕ → ℕ → ℕ → ℕ → ℕ
 pickedOf t a b c d =
-    byteAt t (a % 256) + 256 * byteAt t (b / 256 % 256) + 65536 * byteAt t (c / 65536 % 256) + 16777216 * byteAt t (d / 16777216 % 256)
+    packed (byteAt t (a % 256)) (byteAt t (b / 256 % 256)) (byteAt t (c / 65536 % 256)) (byteAt t (d / 16777216 % 256))

@@ -29,6 +29,7 @@ pub fn double(x: u8) -> u8
     (x % 128 * 2) ^ (x / 128 % 2 * 27)
 }
 
+// A byte as a wider number.
 fn wide(x: u8) -> u32
     ensures { λ r. ⌜ (r ≡ x) × (r < 256) ⌝ }
 {
@@ -105,6 +106,7 @@ fn with_key(s: [u32; 4], k: [u8; 16]) -> [u32; 4]
     [s[0] ^ w[0], s[1] ^ w[1], s[2] ^ w[2], s[3] ^ w[3]]
 }
 
+// A word turned down by one row.
 fn turned(x: u32) -> u32
     ensures { λ r. ⌜ r ≡ turn x ⌝ }
 {
@@ -154,6 +156,7 @@ fn sub(t: &[u32; 256], x: u32) -> u8
     (t[x as usize % 256] / 256 % 256) as u8
 }
 
+// The S-box's bytes for row 0 of a, row 1 of b, row 2 of c and row 3 of d.
 fn sub_column(t: &[u32; 256], a: u32, b: u32, c: u32, d: u32) -> u32
     requires { ⌜ now t ≡ mixingTable ⌝ }
     ensures { λ r. ⌜ r ≡ pickedOf sbox a b c d ⌝ }
@@ -177,6 +180,7 @@ fn sub_shift(t: &[u32; 256], s: [u32; 4]) -> [u32; 4]
     [a, b, c, d]
 }
 
+// A table's bytes for row 0 of a, row 1 of b, row 2 of c and row 3 of d.
 fn unsub_column(v: &[u8; 256], a: u32, b: u32, c: u32, d: u32) -> u32
     ensures { λ r. ⌜ r ≡ pickedOf (now (v .entry)) a b c d ⌝ }
 {
