@@ -6,4 +6,5 @@ pub mod Rounds
 pub mod Schedule
 pub mod Steps
 pub mod Turns
+pub mod Words
 pub mod Worked

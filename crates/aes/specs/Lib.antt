@@ -3,3 +3,4 @@ pub mod Cbc
 pub mod Cmac
 pub mod Keys
 pub mod NextKey
+pub mod Words

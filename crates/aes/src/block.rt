@@ -1,9 +1,13 @@
-// The block, both ways (FIPS 197, sections 5.1 and 5.3). The tables are loaded once at an entry and lent on.
+// The block, both ways (FIPS 197, sections 5.1 and 5.3), as four words, one for each column. The tables are loaded once at
+// an entry and lent on.
 ghost use mathlib.Core.Path.{_≡_};
-ghost use mathlib.Core.List.{[], _∷_};
-ghost use Rattle.sbox.specs.Field.{xtime, mul};
-ghost use Rattle.sbox.specs.Columns.{mixed, unmixed};
+ghost use Prim.Native.Nat.{_%_, _<_};
+ghost use Rattle.base.specs.Bytes.{byteAt};
+ghost use Rattle.sbox.specs.Field.{xtime};
+ghost use Rattle.sbox.specs.Tables.{sbox, invSbox};
+ghost use Rattle.sbox.specs.Words.{packed, mixingTable, unmixingTable};
 ghost use Rattle.aes.specs.Block.{xorBlock, substitute, shiftRows, invShiftRows, mixColumns, invMixColumns, addRoundKey, cipher, invCipher};
+ghost use Rattle.aes.specs.Words.{rows, blockOf, turn, columnOf, pickedOf};
 
 // Two blocks summed (5.1.4).
 pub fn xor_block(a: [u8; 16], b: [u8; 16]) -> [u8; 16]
@@ -18,34 +22,6 @@ pub fn xor_block(a: [u8; 16], b: [u8; 16]) -> [u8; 16]
     r
 }
 
-// SubBytes, then ShiftRows (5.1.1, 5.1.2).
-fn sub_shift(t: &[u8; 256], s: [u8; 16]) -> [u8; 16]
-    ensures { λ r. ⌜ r ≡ shiftRows (substitute (now (t .entry)) s) ⌝ }
-{
-    let mut r = [0u8; 16];
-    let mut i = 0;
-    while i < 16 {
-        let x = s[i % 4 + 4 * ((i / 4 + i % 4) % 4)] as usize % 256;
-        r[i] = t[x];
-        i += 1;
-    }
-    r
-}
-
-// InvShiftRows, then InvSubBytes (5.3.1, 5.3.2).
-fn shift_sub(t: &[u8; 256], s: [u8; 16]) -> [u8; 16]
-    ensures { λ r. ⌜ r ≡ substitute (now (t .entry)) (invShiftRows s) ⌝ }
-{
-    let mut r = [0u8; 16];
-    let mut i = 0;
-    while i < 16 {
-        let x = s[i % 4 + 4 * ((i / 4 + 4 - i % 4) % 4)] as usize % 256;
-        r[i] = t[x];
-        i += 1;
-    }
-    r
-}
-
 // A byte times x (4.2.1).
 pub fn double(x: u8) -> u8
     ensures { λ r. ⌜ r ≡ xtime x ⌝ }
@@ -53,67 +29,55 @@ pub fn double(x: u8) -> u8
     (x % 128 * 2) ^ (x / 128 % 2 * 27)
 }
 
-// 02 a + 03 b + c + d (5.6).
-fn mix(a: u8, b: u8, c: u8, d: u8) -> u8
-    ensures { λ r. ⌜ r ≡ mixed a b c d ⌝ }
+// A byte as a wider number.
+fn wide(x: u8) -> u32
+    ensures { λ r. ⌜ (r ≡ x) × (r < 256) ⌝ }
 {
-    double(a) ^ (double(b) ^ b) ^ c ^ d
+    x as u32
 }
 
-fn times_14(x: u8) -> u8
-    ensures { λ r. ⌜ r ≡ mul 14 x ⌝ }
+// The word of four bytes.
+fn pack(a: u8, b: u8, c: u8, d: u8) -> u32
+    ensures { λ r. ⌜ r ≡ packed a b c d ⌝ }
 {
-    let two = double(x);
-    let four = double(two);
-    double(four) ^ four ^ two
+    let w = wide(a);
+    let x = wide(b);
+    let y = wide(c);
+    let z = wide(d);
+    w + 256 * x + 65536 * y + 16777216 * z
 }
 
-fn times_11(x: u8) -> u8
-    ensures { λ r. ⌜ r ≡ mul 11 x ⌝ }
+// The four bytes of a word.
+fn unpack(x: u32) -> [u8; 4]
+    ensures { λ r. ⌜ r ≡ rows x ⌝ }
 {
-    let two = double(x);
-    double(double(two)) ^ two ^ x
+    [
+        (x % 256) as u8,
+        (x / 256 % 256) as u8,
+        (x / 65536 % 256) as u8,
+        (x / 16777216 % 256) as u8,
+    ]
 }
 
-fn times_13(x: u8) -> u8
-    ensures { λ r. ⌜ r ≡ mul 13 x ⌝ }
+// The four words of a block.
+fn columns(s: [u8; 16]) -> [u32; 4]
+    ensures { λ r. ⌜ blockOf r ≡ s ⌝ }
 {
-    let four = double(double(x));
-    double(four) ^ four ^ x
+    let a = pack(s[0], s[1], s[2], s[3]);
+    let b = pack(s[4], s[5], s[6], s[7]);
+    let c = pack(s[8], s[9], s[10], s[11]);
+    let d = pack(s[12], s[13], s[14], s[15]);
+    [a, b, c, d]
 }
 
-fn times_9(x: u8) -> u8
-    ensures { λ r. ⌜ r ≡ mul 9 x ⌝ }
+// The block of four words.
+fn bytes_of(s: [u32; 4]) -> [u8; 16]
+    ensures { λ r. ⌜ r ≡ blockOf s ⌝ }
 {
-    double(double(double(x))) ^ x
-}
-
-// 0e a + 0b b + 0d c + 09 d (5.10).
-fn unmix(a: u8, b: u8, c: u8, d: u8) -> u8
-    ensures { λ r. ⌜ r ≡ unmixed a b c d ⌝ }
-{
-    times_14(a) ^ times_11(b) ^ times_13(c) ^ times_9(d)
-}
-
-// A column (5.1.3).
-fn mix_column(a: u8, b: u8, c: u8, d: u8) -> [u8; 4]
-    ensures { λ r. ⌜ r ≡ mixed a b c d ∷ mixed b c d a ∷ mixed c d a b ∷ mixed d a b c ∷ [] ⌝ }
-{
-    let w = mix(a, b, c, d);
-    let x = mix(b, c, d, a);
-    let y = mix(c, d, a, b);
-    let z = mix(d, a, b, c);
-    [w, x, y, z]
-}
-
-// 5.1.3
-fn mix_columns(s: [u8; 16]) -> [u8; 16]
-    ensures { λ r. ⌜ r ≡ mixColumns s ⌝ }
-{
-    let a = mix_column(s[0], s[1], s[2], s[3]);
-    let b = mix_column(s[4], s[5], s[6], s[7]);
-    let c = mix_column(s[8], s[9], s[10], s[11]);
-    let d = mix_column(s[12], s[13], s[14], s[15]);
+    let a = unpack(s[0]);
+    let b = unpack(s[1]);
+    let c = unpack(s[2]);
+    let d = unpack(s[3]);
     [
         a[0],
         a[1],
@@ -134,72 +98,176 @@ fn mix_columns(s: [u8; 16]) -> [u8; 16]
     ]
 }
 
-// 5.3.3
-fn unmix_columns(s: [u8; 16]) -> [u8; 16]
-    ensures { λ r. ⌜ r ≡ invMixColumns s ⌝ }
+// AddRoundKey (5.1.4).
+fn with_key(s: [u32; 4], k: [u8; 16]) -> [u32; 4]
+    ensures { λ r. ⌜ blockOf r ≡ addRoundKey (blockOf s) k ⌝ }
 {
-    let mut r = [0u8; 16];
-    let mut i = 0;
-    while i < 16 {
-        let top = 4 * (i / 4);
-        let x = unmix(
-            s[i],
-            s[top + (i + 1) % 4],
-            s[top + (i + 2) % 4],
-            s[top + (i + 3) % 4],
-        );
-        r[i] = x;
-        i += 1;
-    }
-    r
+    let w = columns(k);
+    [s[0] ^ w[0], s[1] ^ w[1], s[2] ^ w[2], s[3] ^ w[3]]
+}
+
+// A word turned down by one row.
+fn turned(x: u32) -> u32
+    ensures { λ r. ⌜ r ≡ turn x ⌝ }
+{
+    x % 16777216 * 256 + x / 16777216
+}
+
+// A table's words for row 0 of a, row 1 of b, row 2 of c and row 3 of d, summed.
+fn column(t: &[u32; 256], a: u32, b: u32, c: u32, d: u32) -> u32
+    ensures { λ r. ⌜ r ≡ columnOf (now (t .entry)) a b c d ⌝ }
+{
+    let w = t[a as usize % 256];
+    let x = t[(b / 256) as usize % 256];
+    let y = t[(c / 65536) as usize % 256];
+    let z = t[(d / 16777216) as usize % 256];
+    w ^ turned(x) ^ turned(turned(y)) ^ turned(turned(turned(z)))
+}
+
+// SubBytes, ShiftRows and MixColumns at once (5.1.1 to 5.1.3).
+fn mix_columns(t: &[u32; 256], s: [u32; 4]) -> [u32; 4]
+    requires { ⌜ now t ≡ mixingTable ⌝ }
+    ensures { λ r. ⌜ blockOf r ≡ mixColumns (shiftRows (substitute sbox (blockOf s))) ⌝ }
+{
+    let a = column(t, s[0], s[1], s[2], s[3]);
+    let b = column(t, s[1], s[2], s[3], s[0]);
+    let c = column(t, s[2], s[3], s[0], s[1]);
+    let d = column(t, s[3], s[0], s[1], s[2]);
+    [a, b, c, d]
+}
+
+// InvMixColumns (5.3.3).
+fn unmix_columns(u: &[u32; 256], s: [u32; 4]) -> [u32; 4]
+    requires { ⌜ now u ≡ unmixingTable ⌝ }
+    ensures { λ r. ⌜ blockOf r ≡ invMixColumns (blockOf s) ⌝ }
+{
+    let a = column(u, s[0], s[0], s[0], s[0]);
+    let b = column(u, s[1], s[1], s[1], s[1]);
+    let c = column(u, s[2], s[2], s[2], s[2]);
+    let d = column(u, s[3], s[3], s[3], s[3]);
+    [a, b, c, d]
+}
+
+// A byte through the S-box, which is row 1 of its word.
+fn sub(t: &[u32; 256], x: u32) -> u8
+    requires { ⌜ now t ≡ mixingTable ⌝ }
+    ensures { λ r. ⌜ r ≡ byteAt sbox (x % 256) ⌝ }
+{
+    (t[x as usize % 256] / 256 % 256) as u8
+}
+
+// The S-box's bytes for row 0 of a, row 1 of b, row 2 of c and row 3 of d.
+fn sub_column(t: &[u32; 256], a: u32, b: u32, c: u32, d: u32) -> u32
+    requires { ⌜ now t ≡ mixingTable ⌝ }
+    ensures { λ r. ⌜ r ≡ pickedOf sbox a b c d ⌝ }
+{
+    let w = sub(t, a);
+    let x = sub(t, b / 256);
+    let y = sub(t, c / 65536);
+    let z = sub(t, d / 16777216);
+    pack(w, x, y, z)
+}
+
+// SubBytes, then ShiftRows (5.1.1, 5.1.2).
+fn sub_shift(t: &[u32; 256], s: [u32; 4]) -> [u32; 4]
+    requires { ⌜ now t ≡ mixingTable ⌝ }
+    ensures { λ r. ⌜ blockOf r ≡ shiftRows (substitute sbox (blockOf s)) ⌝ }
+{
+    let a = sub_column(t, s[0], s[1], s[2], s[3]);
+    let b = sub_column(t, s[1], s[2], s[3], s[0]);
+    let c = sub_column(t, s[2], s[3], s[0], s[1]);
+    let d = sub_column(t, s[3], s[0], s[1], s[2]);
+    [a, b, c, d]
+}
+
+// A table's bytes for row 0 of a, row 1 of b, row 2 of c and row 3 of d.
+fn unsub_column(v: &[u8; 256], a: u32, b: u32, c: u32, d: u32) -> u32
+    ensures { λ r. ⌜ r ≡ pickedOf (now (v .entry)) a b c d ⌝ }
+{
+    let w = v[a as usize % 256];
+    let x = v[(b / 256) as usize % 256];
+    let y = v[(c / 65536) as usize % 256];
+    let z = v[(d / 16777216) as usize % 256];
+    pack(w, x, y, z)
+}
+
+// InvShiftRows, then InvSubBytes (5.3.1, 5.3.2).
+fn shift_sub(v: &[u8; 256], s: [u32; 4]) -> [u32; 4]
+    requires { ⌜ now v ≡ invSbox ⌝ }
+    ensures { λ r. ⌜ blockOf r ≡ substitute invSbox (invShiftRows (blockOf s)) ⌝ }
+{
+    let a = unsub_column(v, s[0], s[3], s[2], s[1]);
+    let b = unsub_column(v, s[1], s[0], s[3], s[2]);
+    let c = unsub_column(v, s[2], s[1], s[0], s[3]);
+    let d = unsub_column(v, s[3], s[2], s[1], s[0]);
+    [a, b, c, d]
 }
 
 // One whole round (5.1).
-fn round(t: &[u8; 256], s: [u8; 16], k: [u8; 16]) -> [u8; 16]
-    ensures { λ r. ⌜ r ≡ addRoundKey (mixColumns (shiftRows (substitute (now (t .entry)) s))) k ⌝ }
+fn round(t: &[u32; 256], s: [u32; 4], k: [u8; 16]) -> [u32; 4]
+    requires { ⌜ now t ≡ mixingTable ⌝ }
+    ensures { λ r. ⌜ blockOf r ≡ addRoundKey (mixColumns (shiftRows (substitute sbox (blockOf s)))) k ⌝ }
 {
-    xor_block(mix_columns(sub_shift(t, s)), k)
+    with_key(mix_columns(t, s), k)
 }
 
 // One round back (5.3).
-fn round_back(t: &[u8; 256], s: [u8; 16], k: [u8; 16]) -> [u8; 16]
-    ensures { λ r. ⌜ r ≡ invMixColumns (addRoundKey (substitute (now (t .entry)) (invShiftRows s)) k) ⌝ }
+fn round_back(v: &[u8; 256], u: &[u32; 256], s: [u32; 4], k: [u8; 16]) -> [u32; 4]
+    requires { ⌜ (now v ≡ invSbox) × (now u ≡ unmixingTable) ⌝ }
+    ensures { λ r. ⌜ blockOf r ≡ invMixColumns (addRoundKey (substitute invSbox (invShiftRows (blockOf s))) k) ⌝ }
 {
-    unmix_columns(xor_block(shift_sub(t, s), k))
+    unmix_columns(u, with_key(shift_sub(v, s), k))
+}
+
+// The cipher on one block, with a loaded table.
+pub fn encrypt_with(t: &[u32; 256], w: &[[u8; 16]; 11], s: [u8; 16]) -> [u8; 16]
+    requires { ⌜ now t ≡ mixingTable ⌝ }
+    ensures { λ r. ⌜ r ≡ cipher (now (w .entry)) s ⌝ }
+{
+    let first = w[0];
+    let mut x = with_key(columns(s), first);
+    let mut i = 0;
+    while i < 9 {
+        let k = w[i + 1];
+        let n = round(t, x, k);
+        x = n;
+        i += 1;
+    }
+    let last = w[10];
+    bytes_of(with_key(sub_shift(t, x), last))
 }
 
 // The cipher on one block.
 pub fn encrypt(w: &[[u8; 16]; 11], s: [u8; 16]) -> [u8; 16]
     ensures { λ r. ⌜ r ≡ cipher (now (w .entry)) s ⌝ }
 {
-    let t = sbox::forward();
-    let first = w[0];
-    let mut x = xor_block(s, first);
-    let mut i = 0;
-    while i < 9 {
-        let k = w[i + 1];
-        let n = round(&t, x, k);
-        x = n;
-        i += 1;
-    }
+    let t = sbox::mixing();
+    encrypt_with(&t, w, s)
+}
+
+// The inverse cipher on one block, with loaded tables.
+pub fn decrypt_with(v: &[u8; 256], u: &[u32; 256], w: &[[u8; 16]; 11], s: [u8; 16]) -> [u8; 16]
+    requires { ⌜ (now v ≡ invSbox) × (now u ≡ unmixingTable) ⌝ }
+    ensures { λ r. ⌜ r ≡ invCipher (now (w .entry)) s ⌝ }
+{
     let last = w[10];
-    xor_block(sub_shift(&t, x), last)
+    let mut x = with_key(columns(s), last);
+    let mut i = 9;
+    while 0 < i {
+        let k = w[i];
+        let n = round_back(v, u, x, k);
+        x = n;
+        i -= 1;
+    }
+    let first = w[0];
+    bytes_of(with_key(shift_sub(v, x), first))
 }
 
 // The inverse cipher on one block.
 pub fn decrypt(w: &[[u8; 16]; 11], s: [u8; 16]) -> [u8; 16]
     ensures { λ r. ⌜ r ≡ invCipher (now (w .entry)) s ⌝ }
 {
-    let t = sbox::backward();
-    let last = w[10];
-    let mut x = xor_block(s, last);
-    let mut i = 9;
-    while 0 < i {
-        let k = w[i];
-        let n = round_back(&t, x, k);
-        x = n;
-        i -= 1;
-    }
-    let first = w[0];
-    xor_block(shift_sub(&t, x), first)
+    let v = sbox::backward();
+    let u = sbox::unmixing();
+    decrypt_with(&v, &u, w, s)
 }

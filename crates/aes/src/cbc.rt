@@ -2,8 +2,8 @@
 ghost use mathlib.Core.Path.{_≡_};
 ghost use Rattle.aes.specs.Cbc.{blockAt, Chains, cbcOut, cbcBack};
 use crate::Chained;
-use crate::block::decrypt;
-use crate::block::encrypt;
+use crate::block::decrypt_with;
+use crate::block::encrypt_with;
 use crate::block::xor_block;
 
 // The block that starts at an index; zeros where the slice ends before it does.
@@ -28,12 +28,13 @@ pub fn cbc_encrypt(w: &[[u8; 16]; 11], iv: [u8; 16], buf: &mut [u8]) -> Chained
     if buf.len() % 16 != 0 {
         return Chained::Ragged;
     }
+    let t = sbox::mixing();
     let mut v = iv;
     let mut at = 0;
     let mut left = buf.len() / 16;
     while 0 < left {
         let p = load(buf, at);
-        let out = encrypt(w, xor_block(p, v));
+        let out = encrypt_with(&t, w, xor_block(p, v));
         base::put(&out, buf, at);
         v = out;
         at += 16;
@@ -49,12 +50,14 @@ pub fn cbc_decrypt(w: &[[u8; 16]; 11], iv: [u8; 16], buf: &mut [u8]) -> Chained
     if buf.len() % 16 != 0 {
         return Chained::Ragged;
     }
+    let b = sbox::backward();
+    let u = sbox::unmixing();
     let mut v = iv;
     let mut at = 0;
     let mut left = buf.len() / 16;
     while 0 < left {
         let c = load(buf, at);
-        let p = xor_block(decrypt(w, c), v);
+        let p = xor_block(decrypt_with(&b, &u, w, c), v);
         base::put(&p, buf, at);
         v = c;
         at += 16;

@@ -3,8 +3,9 @@ ghost use mathlib.Core.Path.{_≡_};
 ghost use mathlib.Core.List.{_∷_, _++_};
 ghost use Prim.Native.Nat.{_+_, _-_, _≤_, _<_};
 ghost use lib.ListN.{length, drop, replicate};
+ghost use Rattle.sbox.specs.Words.{mixingTable};
 ghost use Rattle.aes.specs.Cmac.{shifted, doubled, lastBlock, chained, cmac, evenPlaces};
-use crate::block::encrypt;
+use crate::block::encrypt_with;
 use crate::block::xor_block;
 use crate::cbc::load;
 
@@ -46,11 +47,11 @@ fn padded(s: &[u8]) -> [u8; 16]
 }
 
 // The last block of a message, summed with its subkey.
-fn last_block(w: &[[u8; 16]; 11], s: &[u8]) -> [u8; 16]
-    requires { ⌜ length (now s) ≤ 16 ⌝ }
+fn last_block(t: &[u32; 256], w: &[[u8; 16]; 11], s: &[u8]) -> [u8; 16]
+    requires { ⌜ (now t ≡ mixingTable) × (length (now s) ≤ 16) ⌝ }
     ensures { λ r. ⌜ r ≡ lastBlock (now (w .entry)) (now (s .entry)) ⌝ }
 {
-    let k1 = double_block(encrypt(w, [0u8; 16]));
+    let k1 = double_block(encrypt_with(t, w, [0u8; 16]));
     if s.len() == 16 {
         return xor_block(load(s, 0), k1);
     }
@@ -61,14 +62,15 @@ fn last_block(w: &[[u8; 16]; 11], s: &[u8]) -> [u8; 16]
 pub fn cmac_of(w: &[[u8; 16]; 11], s: &[u8]) -> [u8; 16]
     ensures { λ r. ⌜ r ≡ cmac (now (w .entry)) (now (s .entry)) ⌝ }
 {
+    let t = sbox::mixing();
     let mut v = [0u8; 16];
     let mut at = 0;
     while at + 16 < s.len() {
-        let n = encrypt(w, xor_block(load(s, at), v));
+        let n = encrypt_with(&t, w, xor_block(load(s, at), v));
         v = n;
         at += 16;
     }
-    encrypt(w, xor_block(last_block(w, &s[at..]), v))
+    encrypt_with(&t, w, xor_block(last_block(&t, w, &s[at..]), v))
 }
 
 // The second, fourth and every further even place of the CMAC.

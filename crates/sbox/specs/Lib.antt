@@ -1,3 +1,4 @@
 pub mod Columns
 pub mod Field
 pub mod Tables
+pub mod Words

@@ -6,8 +6,8 @@ use Rattle.aes.proofs.block.round_back.Tie as tie
 shift-sub-requires : tie.Need-shift-sub-requires
 shift-sub-requires c κs = search needs
 
-xor-block-requires : tie.Need-xor-block-requires
-xor-block-requires c κs = search needs
+with-key-requires : tie.Need-with-key-requires
+with-key-requires c κs = search needs
 
 unmix-columns-requires : tie.Need-unmix-columns-requires
 unmix-columns-requires c κs = search needs
@@ -17,4 +17,4 @@ returns c = cc
 
 pub round-back-spec : {M : Type 1} → statement M
 round-back-spec =
-    tie.close (tie.spec shift-sub-requires xor-block-requires unmix-columns-requires returns)
+    tie.close (tie.spec shift-sub-requires with-key-requires unmix-columns-requires returns)

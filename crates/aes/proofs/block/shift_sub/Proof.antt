@@ -1,80 +1,99 @@
--- `aes::block::shift_sub` meets its contract: a table filled byte by byte; a byte is its own remainder by 256.
-use mathlib.Core.Path.{refl, ap}
-use Prim.Native.Nat.{ℕ, _+_, _-_, _*_, _/_, _%_, _≤_}
-use native.Mathlib.Omega.{arith}
+-- `aes::block::shift_sub` meets its contract: four columns of the inverse S-box.
+use Rattle.sbox.specs.Tables.{invSbox}
+use Rattle.sbox.proofs.Rule.{invSbox-bytes}
 use Rattle.base.specs.Bytes.{byteAt}
-use Rattle.base.proofs.Fill.{Filled, filled-none, filled-more, filled-all}
-use mir.Val.{Fits}
-use mir.Syntax.{w8}
-use native.Mathlib.Nat.{mod-eq-of-lt}
-use Rattle.aes.specs.Block.{invShiftRows, substitute}
+use Rattle.aes.specs.Words.{blockOf}
+use Rattle.aes.proofs.Words.{unshifted-block}
 use borrow.Author.Needs.{needs}
 use Rattle.aes.proofs.block.shift_sub.Statement.{statement}
 use Rattle.aes.proofs.block.shift_sub.Tie as tie
 
-abbrev Inv-loop : tie.InvT-loop
-Inv-loop t s r₀ i₀ r i = (i ≤ 16) × Filled 0 16 (λ j. byteAt t (byteAt s (j % 4 + 4 * ((j / 4 + 4 - j % 4) % 4)))) r i
+array-read-unsub-column : tie.Need-array-read-unsub-column
+array-read-unsub-column c = search needs
 
-abbrev μ-loop : tie.MeasureT-loop
-μ-loop t s r₀ i₀ r i = 16 - i
+array-read-unsub-column-2 : tie.Need-array-read-unsub-column-2
+array-read-unsub-column-2 c = search needs
 
-loop-holds : tie.Need-loop-holds Inv-loop μ-loop
-loop-holds c = (omega arith, filled-none 0 16 _ _ refl)
+array-read-unsub-column-3 : tie.Need-array-read-unsub-column-3
+array-read-unsub-column-3 c = search needs
 
-add-x : tie.Need-add-x Inv-loop μ-loop
-add-x c = search needs
+array-read-unsub-column-4 : tie.Need-array-read-unsub-column-4
+array-read-unsub-column-4 c = search needs
 
-sub-x : tie.Need-sub-x Inv-loop μ-loop
-sub-x c = search needs
+unsub-column-requires : tie.Need-unsub-column-requires
+unsub-column-requires c κs = search needs
 
-mul-x : tie.Need-mul-x Inv-loop μ-loop
-mul-x c = search needs
+array-read-unsub-column-5 : tie.Need-array-read-unsub-column-5
+array-read-unsub-column-5 c = search needs
 
-add-x-2 : tie.Need-add-x-2 Inv-loop μ-loop
-add-x-2 c = search needs
+array-read-unsub-column-6 : tie.Need-array-read-unsub-column-6
+array-read-unsub-column-6 c = search needs
 
-array-read-x : tie.Need-array-read-x Inv-loop μ-loop
-array-read-x c = search needs
+array-read-unsub-column-7 : tie.Need-array-read-unsub-column-7
+array-read-unsub-column-7 c = search needs
 
-cast-x : tie.Need-cast-x Inv-loop μ-loop
-cast-x c = search needs
+array-read-unsub-column-8 : tie.Need-array-read-unsub-column-8
+array-read-unsub-column-8 c = search needs
 
-element-copy-out-r : tie.Need-element-copy-out-r Inv-loop μ-loop
-element-copy-out-r c = search needs
+unsub-column-requires-2 : tie.Need-unsub-column-requires-2
+unsub-column-requires-2 c κs = search needs
 
-array-write-r : tie.Need-array-write-r Inv-loop μ-loop
-array-write-r c = search needs
+array-read-unsub-column-9 : tie.Need-array-read-unsub-column-9
+array-read-unsub-column-9 c = search needs
 
-add-i : tie.Need-add-i Inv-loop μ-loop
-add-i c = search needs
+array-read-unsub-column-10 : tie.Need-array-read-unsub-column-10
+array-read-unsub-column-10 c = search needs
 
-loop-less : tie.Need-loop-less Inv-loop μ-loop
-loop-less c = search needs
+array-read-unsub-column-11 : tie.Need-array-read-unsub-column-11
+array-read-unsub-column-11 c = search needs
 
-loop-again : tie.Need-loop-again Inv-loop μ-loop
-loop-again c = let b : (k : ℕ) → Fits w8 (byteAt (c .before .before .before .args .t2) k) = λ k. search needs in
-    (omega arith, filled-more 0 16 _ _ _ _ (c .before .before .loop .inv .1) (c .before .loop-test .taken) (ap (byteAt (c .before .before .before .args .t .now)) (mod-eq-of-lt (b _ .fits))))
+array-read-unsub-column-12 : tie.Need-array-read-unsub-column-12
+array-read-unsub-column-12 c = search needs
 
-returns : tie.Need-returns Inv-loop μ-loop
-unfolding invShiftRows substitute
-returns c = filled-all 0 16 _ _ _ (c .before .loop .inv .1) (omega arith)
+unsub-column-requires-3 : tie.Need-unsub-column-requires-3
+unsub-column-requires-3 c κs = search needs
+
+array-read-unsub-column-13 : tie.Need-array-read-unsub-column-13
+array-read-unsub-column-13 c = search needs
+
+array-read-unsub-column-14 : tie.Need-array-read-unsub-column-14
+array-read-unsub-column-14 c = search needs
+
+array-read-unsub-column-15 : tie.Need-array-read-unsub-column-15
+array-read-unsub-column-15 c = search needs
+
+array-read-unsub-column-16 : tie.Need-array-read-unsub-column-16
+array-read-unsub-column-16 c = search needs
+
+unsub-column-requires-4 : tie.Need-unsub-column-requires-4
+unsub-column-requires-4 c κs = search needs
+
+returns : tie.Need-returns
+unfolding blockOf
+returns c = let s = c .before .before .before .before .args .t2 in rw (c .before .before .before .unsub-column .ensures, c .before .before .unsub-column2 .ensures, c .before .unsub-column3 .ensures, c .unsub-column4 .ensures, c .before .before .before .before .pre) (unshifted-block invSbox invSbox-bytes (byteAt s 0) (byteAt s 1) (byteAt s 2) (byteAt s 3))
 
 pub shift-sub-spec : {M : Type 1} → statement M
 shift-sub-spec =
     tie.close
     (tie.spec
-    Inv-loop
-    μ-loop
-    loop-holds
-    add-x
-    sub-x
-    mul-x
-    add-x-2
-    array-read-x
-    cast-x
-    element-copy-out-r
-    array-write-r
-    add-i
-    loop-less
-    loop-again
+    array-read-unsub-column
+    array-read-unsub-column-2
+    array-read-unsub-column-3
+    array-read-unsub-column-4
+    unsub-column-requires
+    array-read-unsub-column-5
+    array-read-unsub-column-6
+    array-read-unsub-column-7
+    array-read-unsub-column-8
+    unsub-column-requires-2
+    array-read-unsub-column-9
+    array-read-unsub-column-10
+    array-read-unsub-column-11
+    array-read-unsub-column-12
+    unsub-column-requires-3
+    array-read-unsub-column-13
+    array-read-unsub-column-14
+    array-read-unsub-column-15
+    array-read-unsub-column-16
+    unsub-column-requires-4
     returns)

@@ -11,13 +11,19 @@ use Rattle.aes.proofs.cbc.cbc_decrypt.Statement.{statement}
 use Rattle.aes.proofs.cbc.cbc_decrypt.Tie as tie
 
 abbrev Inv-loop : tie.InvT-loop
-Inv-loop w buf₀ v₀ at₀ left₀ buf v at left = Still (opened w) (λ u c. c) left₀ v₀ buf₀ buf v at left
+Inv-loop w buf₀ b u v₀ at₀ left₀ buf v at left = Still (opened w) (λ u c. c) left₀ v₀ buf₀ buf v at left
 
 abbrev μ-loop : tie.MeasureT-loop
-μ-loop w buf₀ v₀ at₀ left₀ buf v at left = left
+μ-loop w buf₀ b u v₀ at₀ left₀ buf v at left = left
 
 returns : tie.Need-returns Inv-loop μ-loop
 returns c = record { told = simp (ne-eqb _ _ (c .if1 .taken)); left = simp (ne-eqb _ _ (c .if1 .taken)) }
+
+backward-requires : tie.Need-backward-requires Inv-loop μ-loop
+backward-requires c κs = search needs
+
+unmixing-requires : tie.Need-unmixing-requires Inv-loop μ-loop
+unmixing-requires c κs = search needs
 
 loop-holds : tie.Need-loop-holds Inv-loop μ-loop
 loop-holds c = still-start _ _ _ _ _ (omega arith)
@@ -25,8 +31,8 @@ loop-holds c = still-start _ _ _ _ _ (omega arith)
 load-requires : tie.Need-load-requires Inv-loop μ-loop
 load-requires c κs = search needs
 
-decrypt-requires : tie.Need-decrypt-requires Inv-loop μ-loop
-decrypt-requires c κs = search needs
+decrypt-with-requires : tie.Need-decrypt-with-requires Inv-loop μ-loop
+decrypt-with-requires c κs = search needs
 
 xor-block-requires : tie.Need-xor-block-requires Inv-loop μ-loop
 xor-block-requires c κs = search needs
@@ -38,7 +44,7 @@ put-requires : tie.Need-put-requires Inv-loop μ-loop
 put-requires c κs = search needs
 
 add-at : tie.Need-add-at Inv-loop μ-loop
-add-at c = omega (arith, c .before .before .before .before .before .before .before .before .before .before .loop .inv .ends)
+add-at c = omega (arith, c .before .before .before .before .before .before .before .before .before .before .before .before .loop .inv .ends)
 
 sub-left : tie.Need-sub-left Inv-loop μ-loop
 sub-left c = search needs
@@ -48,15 +54,15 @@ loop-less c = search needs
 
 loop-again : tie.Need-loop-again Inv-loop μ-loop
 unfolding opened
-loop-again c = let bl : c .before .before .before .before .before .before .before .load .result ≡ take 16 (drop (c .before .before .before .before .before .before .before .before .before .before .loop .at) (c .before .before .before .before .before .before .before .before .before .before .loop .buf)) = c .before .before .before .before .before .before .before .load .ensures ∙ block-inside (c .before .before .before .before .before .before .before .before .before .before .loop .buf) (c .before .before .before .before .before .before .before .before .before .before .loop .at) (omega (arith, c .before .before .before .before .before .before .before .before .before .before .loop .inv .ends)) in let e : c .before .before .before .before .before .xor-block .result ≡ opened (c .before .before .before .before .before .before .before .before .before .before .before .before .before .args .w .now) (c .before .before .before .before .before .before .before .before .before .before .loop .v) (take 16 (drop (c .before .before .before .before .before .before .before .before .before .before .loop .at) (c .before .before .before .before .before .before .before .before .before .before .loop .buf))) = c .before .before .before .before .before .xor-block .ensures ∙ rw (c .before .before .before .before .before .before .decrypt .ensures, bl) refl in
-    still-told _ _ _ _ _ (c .before .before .before .before .before .before .before .before .before .before .loop .buf) (c .before .before .before .before .before .before .before .before .before .before .loop .v) _ _ _ (c .before .before .before .before .before .before .before .before .before .before .loop .at) (c .before .before .before .before .before .before .before .before .before .before .loop .left) (c .before .before .before .before .before .before .before .before .before .before .loop .inv) (c .before .before .before .before .before .before .before .before .before .loop-test .taken) e (search needs) (c .before .before .put .ensures) bl
+loop-again c = let bl : c .before .before .before .before .before .before .before .before .before .load .result ≡ take 16 (drop (c .before .before .before .before .before .before .before .before .before .before .before .before .loop .at) (c .before .before .before .before .before .before .before .before .before .before .before .before .loop .buf)) = c .before .before .before .before .before .before .before .before .before .load .ensures ∙ block-inside (c .before .before .before .before .before .before .before .before .before .before .before .before .loop .buf) (c .before .before .before .before .before .before .before .before .before .before .before .before .loop .at) (omega (arith, c .before .before .before .before .before .before .before .before .before .before .before .before .loop .inv .ends)) in let e : c .before .before .before .before .before .xor-block .result ≡ opened (c .before .before .before .before .before .before .before .before .before .before .before .before .before .before .before .before .before .args .w .now) (c .before .before .before .before .before .before .before .before .before .before .before .before .loop .v) (take 16 (drop (c .before .before .before .before .before .before .before .before .before .before .before .before .loop .at) (c .before .before .before .before .before .before .before .before .before .before .before .before .loop .buf))) = c .before .before .before .before .before .xor-block .ensures ∙ rw (c .before .before .before .before .before .before .decrypt-with .ensures, bl) refl in
+    still-told _ _ _ _ _ (c .before .before .before .before .before .before .before .before .before .before .before .before .loop .buf) (c .before .before .before .before .before .before .before .before .before .before .before .before .loop .v) _ _ _ (c .before .before .before .before .before .before .before .before .before .before .before .before .loop .at) (c .before .before .before .before .before .before .before .before .before .before .before .before .loop .left) (c .before .before .before .before .before .before .before .before .before .before .before .before .loop .inv) (c .before .before .before .before .before .before .before .before .before .before .before .loop-test .taken) e (search needs) (c .before .before .put .ensures) bl
 
 same-length : tie.Need-same-length Inv-loop μ-loop
 same-length c = c .before .loop .inv .same
 
 returns-2 : tie.Need-returns-2 Inv-loop μ-loop
 unfolding cbcBack
-returns-2 c = record { told = simp (eq-eqb _ _ (c .before .before .if1 .left)); left = still-end _ _ _ _ _ _ _ _ _ (c .before .loop .inv) (c .loop-test .left) ∙ simp (eq-eqb _ _ (c .before .before .if1 .left)) }
+returns-2 c = record { told = simp (eq-eqb _ _ (c .before .before .before .before .if1 .left)); left = still-end _ _ _ _ _ _ _ _ _ (c .before .loop .inv) (c .loop-test .left) ∙ simp (eq-eqb _ _ (c .before .before .before .before .if1 .left)) }
 
 pub cbc-decrypt-spec : {M : Type 1} → statement M
 cbc-decrypt-spec =
@@ -65,9 +71,11 @@ cbc-decrypt-spec =
     Inv-loop
     μ-loop
     returns
+    backward-requires
+    unmixing-requires
     loop-holds
     load-requires
-    decrypt-requires
+    decrypt-with-requires
     xor-block-requires
     slice-aggregate-put
     put-requires

@@ -11,13 +11,16 @@ use Rattle.aes.proofs.cbc.cbc_encrypt.Statement.{statement}
 use Rattle.aes.proofs.cbc.cbc_encrypt.Tie as tie
 
 abbrev Inv-loop : tie.InvT-loop
-Inv-loop w buf₀ v₀ at₀ left₀ buf v at left = Still (sealed w) (sealed w) left₀ v₀ buf₀ buf v at left
+Inv-loop w buf₀ t v₀ at₀ left₀ buf v at left = Still (sealed w) (sealed w) left₀ v₀ buf₀ buf v at left
 
 abbrev μ-loop : tie.MeasureT-loop
-μ-loop w buf₀ v₀ at₀ left₀ buf v at left = left
+μ-loop w buf₀ t v₀ at₀ left₀ buf v at left = left
 
 returns : tie.Need-returns Inv-loop μ-loop
 returns c = record { told = simp (ne-eqb _ _ (c .if1 .taken)); left = simp (ne-eqb _ _ (c .if1 .taken)) }
+
+mixing-requires : tie.Need-mixing-requires Inv-loop μ-loop
+mixing-requires c κs = search needs
 
 loop-holds : tie.Need-loop-holds Inv-loop μ-loop
 loop-holds c = still-start _ _ _ _ _ (omega arith)
@@ -28,8 +31,8 @@ load-requires c κs = search needs
 xor-block-requires : tie.Need-xor-block-requires Inv-loop μ-loop
 xor-block-requires c κs = search needs
 
-encrypt-requires : tie.Need-encrypt-requires Inv-loop μ-loop
-encrypt-requires c κs = search needs
+encrypt-with-requires : tie.Need-encrypt-with-requires Inv-loop μ-loop
+encrypt-with-requires c κs = search needs
 
 slice-aggregate-put : tie.Need-slice-aggregate-put Inv-loop μ-loop
 slice-aggregate-put c = search needs
@@ -38,7 +41,7 @@ put-requires : tie.Need-put-requires Inv-loop μ-loop
 put-requires c κs = search needs
 
 add-at : tie.Need-add-at Inv-loop μ-loop
-add-at c = omega (arith, c .before .before .before .before .before .before .before .before .before .before .loop .inv .ends)
+add-at c = omega (arith, c .before .before .before .before .before .before .before .before .before .before .before .loop .inv .ends)
 
 sub-left : tie.Need-sub-left Inv-loop μ-loop
 sub-left c = search needs
@@ -48,15 +51,15 @@ loop-less c = search needs
 
 loop-again : tie.Need-loop-again Inv-loop μ-loop
 unfolding sealed
-loop-again c = let bl : c .before .before .before .before .before .before .before .load .result ≡ take 16 (drop (c .before .before .before .before .before .before .before .before .before .before .loop .at) (c .before .before .before .before .before .before .before .before .before .before .loop .buf)) = c .before .before .before .before .before .before .before .load .ensures ∙ block-inside (c .before .before .before .before .before .before .before .before .before .before .loop .buf) (c .before .before .before .before .before .before .before .before .before .before .loop .at) (omega (arith, c .before .before .before .before .before .before .before .before .before .before .loop .inv .ends)) in let e : c .before .before .before .before .before .encrypt .result ≡ sealed (c .before .before .before .before .before .before .before .before .before .before .before .before .before .args .w .now) (c .before .before .before .before .before .before .before .before .before .before .loop .v) (take 16 (drop (c .before .before .before .before .before .before .before .before .before .before .loop .at) (c .before .before .before .before .before .before .before .before .before .before .loop .buf))) = c .before .before .before .before .before .encrypt .ensures ∙ rw (c .before .before .before .before .before .before .xor-block .ensures, bl) refl in
-    still-told _ _ _ _ _ (c .before .before .before .before .before .before .before .before .before .before .loop .buf) (c .before .before .before .before .before .before .before .before .before .before .loop .v) _ _ _ (c .before .before .before .before .before .before .before .before .before .before .loop .at) (c .before .before .before .before .before .before .before .before .before .before .loop .left) (c .before .before .before .before .before .before .before .before .before .before .loop .inv) (c .before .before .before .before .before .before .before .before .before .loop-test .taken) e (search needs) (c .before .before .put .ensures) e
+loop-again c = let bl : c .before .before .before .before .before .before .before .before .load .result ≡ take 16 (drop (c .before .before .before .before .before .before .before .before .before .before .before .loop .at) (c .before .before .before .before .before .before .before .before .before .before .before .loop .buf)) = c .before .before .before .before .before .before .before .before .load .ensures ∙ block-inside (c .before .before .before .before .before .before .before .before .before .before .before .loop .buf) (c .before .before .before .before .before .before .before .before .before .before .before .loop .at) (omega (arith, c .before .before .before .before .before .before .before .before .before .before .before .loop .inv .ends)) in let e : c .before .before .before .before .before .encrypt-with .result ≡ sealed (c .before .before .before .before .before .before .before .before .before .before .before .before .before .before .before .args .w .now) (c .before .before .before .before .before .before .before .before .before .before .before .loop .v) (take 16 (drop (c .before .before .before .before .before .before .before .before .before .before .before .loop .at) (c .before .before .before .before .before .before .before .before .before .before .before .loop .buf))) = c .before .before .before .before .before .encrypt-with .ensures ∙ rw (c .before .before .before .before .before .before .xor-block .ensures, bl) refl in
+    still-told _ _ _ _ _ (c .before .before .before .before .before .before .before .before .before .before .before .loop .buf) (c .before .before .before .before .before .before .before .before .before .before .before .loop .v) _ _ _ (c .before .before .before .before .before .before .before .before .before .before .before .loop .at) (c .before .before .before .before .before .before .before .before .before .before .before .loop .left) (c .before .before .before .before .before .before .before .before .before .before .before .loop .inv) (c .before .before .before .before .before .before .before .before .before .before .loop-test .taken) e (search needs) (c .before .before .put .ensures) e
 
 same-length : tie.Need-same-length Inv-loop μ-loop
 same-length c = c .before .loop .inv .same
 
 returns-2 : tie.Need-returns-2 Inv-loop μ-loop
 unfolding cbcOut
-returns-2 c = record { told = simp (eq-eqb _ _ (c .before .before .if1 .left)); left = still-end _ _ _ _ _ _ _ _ _ (c .before .loop .inv) (c .loop-test .left) ∙ simp (eq-eqb _ _ (c .before .before .if1 .left)) }
+returns-2 c = record { told = simp (eq-eqb _ _ (c .before .before .before .if1 .left)); left = still-end _ _ _ _ _ _ _ _ _ (c .before .loop .inv) (c .loop-test .left) ∙ simp (eq-eqb _ _ (c .before .before .before .if1 .left)) }
 
 pub cbc-encrypt-spec : {M : Type 1} → statement M
 cbc-encrypt-spec =
@@ -65,10 +68,11 @@ cbc-encrypt-spec =
     Inv-loop
     μ-loop
     returns
+    mixing-requires
     loop-holds
     load-requires
     xor-block-requires
-    encrypt-requires
+    encrypt-with-requires
     slice-aggregate-put
     put-requires
     add-at

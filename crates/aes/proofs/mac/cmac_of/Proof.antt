@@ -13,10 +13,13 @@ use Rattle.aes.proofs.mac.cmac_of.Statement.{statement}
 use Rattle.aes.proofs.mac.cmac_of.Tie as tie
 
 abbrev Inv-loop : tie.InvT-loop
-Inv-loop w s v₀ at₀ v at = (at ≤ length s) × (from w v (drop at s) ≡ from w v₀ s)
+Inv-loop w s t v₀ at₀ v at = (at ≤ length s) × (from w v (drop at s) ≡ from w v₀ s)
 
 abbrev μ-loop : tie.MeasureT-loop
-μ-loop w s v₀ at₀ v at = length s - at
+μ-loop w s t v₀ at₀ v at = length s - at
+
+mixing-requires : tie.Need-mixing-requires Inv-loop μ-loop
+mixing-requires c κs = search needs
 
 loop-holds : tie.Need-loop-holds Inv-loop μ-loop
 loop-holds c = (omega arith, refl)
@@ -30,8 +33,8 @@ load-requires c κs = search needs
 xor-block-requires : tie.Need-xor-block-requires Inv-loop μ-loop
 xor-block-requires c κs = search needs
 
-encrypt-requires : tie.Need-encrypt-requires Inv-loop μ-loop
-encrypt-requires c κs = search needs
+encrypt-with-requires : tie.Need-encrypt-with-requires Inv-loop μ-loop
+encrypt-with-requires c κs = search needs
 
 add-at : tie.Need-add-at Inv-loop μ-loop
 add-at c = search needs
@@ -40,9 +43,9 @@ loop-less : tie.Need-loop-less Inv-loop μ-loop
 loop-less c = search needs
 
 loop-again : tie.Need-loop-again Inv-loop μ-loop
-loop-again c = let a = c .before .before .before .before .before .before .args in let s = a .s .now in
-    let e : c .encrypt .result ≡ cipher (a .w .now) (xorBlock (take 16 (drop (c .before .before .before .before .loop .at) s)) (c .before .before .before .before .loop .v)) = c .encrypt .ensures ∙ rw (c .before .xor-block .ensures, c .before .before .load .ensures, block-inside s (c .before .before .before .before .loop .at) (omega arith)) refl in
-    (omega arith, rw (e, ← drop-drop 16 (c .before .before .before .before .loop .at) s) (sym (from-more (a .w .now) (c .before .before .before .before .loop .v) (drop (c .before .before .before .before .loop .at) s) (simp length-drop (omega arith))) ∙ c .before .before .before .before .loop .inv .1))
+loop-again c = let a = c .before .before .before .before .before .before .before .before .args in let s = a .s .now in
+    let e : c .encrypt-with .result ≡ cipher (a .w .now) (xorBlock (take 16 (drop (c .before .before .before .before .before .loop .at) s)) (c .before .before .before .before .before .loop .v)) = c .encrypt-with .ensures ∙ rw (c .before .xor-block .ensures, c .before .before .load .ensures, block-inside s (c .before .before .before .before .before .loop .at) (omega arith)) refl in
+    (omega arith, rw (e, ← drop-drop 16 (c .before .before .before .before .before .loop .at) s) (sym (from-more (a .w .now) (c .before .before .before .before .before .loop .v) (drop (c .before .before .before .before .before .loop .at) s) (simp length-drop (omega arith))) ∙ c .before .before .before .before .before .loop .inv .1))
 
 sub-last-block : tie.Need-sub-last-block Inv-loop μ-loop
 sub-last-block c = search needs
@@ -59,11 +62,11 @@ last-block-requires c κs = search needs
 xor-block-requires-2 : tie.Need-xor-block-requires-2 Inv-loop μ-loop
 xor-block-requires-2 c κs = search needs
 
-encrypt-requires-2 : tie.Need-encrypt-requires-2 Inv-loop μ-loop
-encrypt-requires-2 c κs = search needs
+encrypt-with-requires-2 : tie.Need-encrypt-with-requires-2 Inv-loop μ-loop
+encrypt-with-requires-2 c κs = search needs
 
 returns : tie.Need-returns Inv-loop μ-loop
-returns c = let a = c .before .before .before .before .before .before .before .args in let s = a .s .now in c .encrypt2 .ensures ∙ rw (c .before .xor-block2 .ensures, c .before .before .last-block .ensures) (ap (λ l. cipher (a .w .now) (xorBlock (lastBlock (a .w .now) l) (c .before .before .before .before .before .loop .v))) (take-all (length s - c .before .before .before .before .before .loop .at) (drop (c .before .before .before .before .before .loop .at) s) (simp length-drop (omega arith))) ∙ sym (from-last (a .w .now) (c .before .before .before .before .before .loop .v) (drop (c .before .before .before .before .before .loop .at) s) (simp length-drop (omega arith))) ∙ c .before .before .before .before .before .loop .inv .1 ∙ sym (from-start (a .w .now) s))
+returns c = let a = c .before .before .before .before .before .before .before .before .before .before .args in let s = a .s .now in c .encrypt-with2 .ensures ∙ rw (c .before .xor-block2 .ensures, c .before .before .last-block .ensures) (ap (λ l. cipher (a .w .now) (xorBlock (lastBlock (a .w .now) l) (c .before .before .before .before .before .before .before .loop .v))) (take-all (length s - c .before .before .before .before .before .before .before .loop .at) (drop (c .before .before .before .before .before .before .before .loop .at) s) (simp length-drop (omega arith))) ∙ sym (from-last (a .w .now) (c .before .before .before .before .before .before .before .loop .v) (drop (c .before .before .before .before .before .before .before .loop .at) s) (simp length-drop (omega arith))) ∙ c .before .before .before .before .before .before .before .loop .inv .1 ∙ sym (from-start (a .w .now) s))
 
 pub cmac-of-spec : {M : Type 1} → statement M
 cmac-of-spec =
@@ -71,11 +74,12 @@ cmac-of-spec =
     (tie.spec
     Inv-loop
     μ-loop
+    mixing-requires
     loop-holds
     add-loop
     load-requires
     xor-block-requires
-    encrypt-requires
+    encrypt-with-requires
     add-at
     loop-less
     loop-again
@@ -84,5 +88,5 @@ cmac-of-spec =
     part-last-block-end
     last-block-requires
     xor-block-requires-2
-    encrypt-requires-2
+    encrypt-with-requires-2
     returns)

@@ -7,11 +7,12 @@ use lib.Seq.{take-all}
 use Rattle.aes.proofs.Turns.{block-inside}
 use Rattle.aes.specs.Cmac.{subkey1, subkey2, lastBlock}
 use borrow.Author.Needs.{needs}
+use borrow.Author.Needs.{needs}
 use Rattle.aes.proofs.mac.last_block.Statement.{statement}
 use Rattle.aes.proofs.mac.last_block.Tie as tie
 
-encrypt-requires : tie.Need-encrypt-requires
-encrypt-requires c κs = search needs
+encrypt-with-requires : tie.Need-encrypt-with-requires
+encrypt-with-requires c κs = search needs
 
 double-block-requires : tie.Need-double-block-requires
 double-block-requires c κs = search needs
@@ -25,10 +26,10 @@ xor-block-requires c κs = search needs
 returns : tie.Need-returns
 unfolding lastBlock subkey1
 returns c = let s = c .before .before .before .before .before .before .args .s .now in let h : length s ≡ 16 = c .before .before .if1 .taken in
-    c .xor-block .ensures ∙ rw (c .before .load .ensures, block-inside s 0 (omega arith), c .before .before .before .double-block .ensures, c .before .before .before .before .encrypt .ensures, take-all 16 s (omega arith), eq-eqb (length s) 16 h) refl
+    c .xor-block .ensures ∙ rw (c .before .load .ensures, block-inside s 0 (omega arith), c .before .before .before .double-block .ensures, c .before .before .before .before .encrypt-with .ensures, take-all 16 s (omega arith), eq-eqb (length s) 16 h) refl
 
 padded-requires : tie.Need-padded-requires
-padded-requires c κs = omega (arith, c .if1 .left, c .before .before .before .before .pre)
+padded-requires c κs = omega (arith, c .if1 .left, c .before .before .before .before .pre .1)
 
 double-block-requires-2 : tie.Need-double-block-requires-2
 double-block-requires-2 c κs = search needs
@@ -39,13 +40,13 @@ xor-block-requires-2 c κs = search needs
 returns-2 : tie.Need-returns-2
 unfolding lastBlock subkey1 subkey2
 returns-2 c = let s = c .before .before .before .before .before .before .before .args .s .now in
-    c .xor-block2 .ensures ∙ rw (c .before .before .padded .ensures, c .before .double-block2 .ensures, c .before .before .before .before .double-block .ensures, c .before .before .before .before .before .encrypt .ensures, ne-eqb (length s) 16 (c .before .before .before .if1 .left)) refl
+    c .xor-block2 .ensures ∙ rw (c .before .before .padded .ensures, c .before .double-block2 .ensures, c .before .before .before .before .double-block .ensures, c .before .before .before .before .before .encrypt-with .ensures, ne-eqb (length s) 16 (c .before .before .before .if1 .left)) refl
 
 pub last-block-spec : {M : Type 1} → statement M
 last-block-spec =
     tie.close
     (tie.spec
-    encrypt-requires
+    encrypt-with-requires
     double-block-requires
     load-requires
     xor-block-requires

@@ -1,27 +1,28 @@
--- `aes::block::encrypt` meets its contract: each turn is one round of the definition.
+-- `aes::block::encrypt_with` meets its contract: each turn is one round of the definition.
 use Rattle.aes.proofs.Rounds.{rounds-more, rounds-none}
 use mathlib.Core.Path.{_≡_, refl, sym, _∙_}
 use Prim.Native.Nat.{_-_, _≤_}
 use native.Mathlib.Omega.{arith}
 use Rattle.aes.specs.Block.{rounds, cipher}
+use Rattle.aes.specs.Words.{blockOf}
 use borrow.Author.Needs.{needs}
-use Rattle.aes.proofs.block.encrypt.Statement.{statement}
-use Rattle.aes.proofs.block.encrypt.Tie as tie
+use Rattle.aes.proofs.block.encrypt_with.Statement.{statement}
+use Rattle.aes.proofs.block.encrypt_with.Tie as tie
 
 abbrev Inv-loop : tie.InvT-loop
-Inv-loop w t x₀ i₀ x i = (i ≤ 9) × (x ≡ rounds w i x₀)
+Inv-loop t w x₀ i₀ x i = (i ≤ 9) × (blockOf x ≡ rounds w i (blockOf x₀))
 
 abbrev μ-loop : tie.MeasureT-loop
-μ-loop w t x₀ i₀ x i = 9 - i
-
-forward-requires : tie.Need-forward-requires Inv-loop μ-loop
-forward-requires c κs = search needs
+μ-loop t w x₀ i₀ x i = 9 - i
 
 element-copy-out-first : tie.Need-element-copy-out-first Inv-loop μ-loop
 element-copy-out-first c = search needs
 
-xor-block-requires : tie.Need-xor-block-requires Inv-loop μ-loop
-xor-block-requires c κs = search needs
+columns-requires : tie.Need-columns-requires Inv-loop μ-loop
+columns-requires c κs = search needs
+
+with-key-requires : tie.Need-with-key-requires Inv-loop μ-loop
+with-key-requires c κs = search needs
 
 loop-holds : tie.Need-loop-holds Inv-loop μ-loop
 loop-holds c = (omega arith, sym (rounds-none _ _))
@@ -45,7 +46,7 @@ loop-less : tie.Need-loop-less Inv-loop μ-loop
 loop-less c = search needs
 
 loop-again : tie.Need-loop-again Inv-loop μ-loop
-loop-again c = (omega arith, c .round .ensures ∙ rw (c .before .before .before .before .before .before .before .forward .ensures, c .before .before .before .before .loop .inv .1) (sym (rounds-more _ _ _)))
+loop-again c = (omega arith, c .round .ensures ∙ rw (c .before .before .before .loop .inv .1) (sym (rounds-more _ _ _)))
 
 element-copy-out-last : tie.Need-element-copy-out-last Inv-loop μ-loop
 element-copy-out-last c = search needs
@@ -53,22 +54,25 @@ element-copy-out-last c = search needs
 sub-shift-requires : tie.Need-sub-shift-requires Inv-loop μ-loop
 sub-shift-requires c κs = search needs
 
-xor-block-requires-2 : tie.Need-xor-block-requires-2 Inv-loop μ-loop
-xor-block-requires-2 c κs = search needs
+with-key-requires-2 : tie.Need-with-key-requires-2 Inv-loop μ-loop
+with-key-requires-2 c κs = search needs
+
+bytes-of-requires : tie.Need-bytes-of-requires Inv-loop μ-loop
+bytes-of-requires c κs = search needs
 
 returns : tie.Need-returns Inv-loop μ-loop
 unfolding cipher
-returns c = let e : c .before .before .before .before .before .loop .i ≡ 9 = omega arith in c .xor-block2 .ensures ∙ rw (c .before .sub-shift .ensures, c .before .before .before .before .before .before .before .before .forward .ensures, c .before .before .before .before .before .loop .inv .1, e, c .before .before .before .before .before .before .xor-block .ensures) refl
+returns c = let e : c .before .before .before .before .before .loop .i ≡ 9 = omega arith in c .bytes-of .ensures ∙ c .before .with-key2 .ensures ∙ rw (c .before .before .sub-shift .ensures, c .before .before .before .before .before .loop .inv .1, e, c .before .before .before .before .before .before .with-key .ensures, c .before .before .before .before .before .before .before .columns .ensures) refl
 
-pub encrypt-spec : {M : Type 1} → statement M
-encrypt-spec =
+pub encrypt-with-spec : {M : Type 1} → statement M
+encrypt-with-spec =
     tie.close
     (tie.spec
     Inv-loop
     μ-loop
-    forward-requires
     element-copy-out-first
-    xor-block-requires
+    columns-requires
+    with-key-requires
     loop-holds
     add-k
     mul-k
@@ -79,5 +83,6 @@ encrypt-spec =
     loop-again
     element-copy-out-last
     sub-shift-requires
-    xor-block-requires-2
+    with-key-requires-2
+    bytes-of-requires
     returns)
