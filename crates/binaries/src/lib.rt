@@ -56,8 +56,10 @@ fn may(l: Live, a: Access) -> bool
 fn may_use(tag: Tag, ins: u8) -> bool
     ensures { λ r. ⌜ r ≡ mayUse tag ins ⌝ }
 {
-    let r = state::reading_of(tag.files, tag.place.file);
-    may(tag.live, state::access_for(ins, tag.live, r.settings.head))
+    let rules = tag.files.rules;
+    let lens = tag.files.lens;
+    let h = state::head_of(&rules, lens, tag.place.file);
+    may(tag.live, state::access_for(ins, tag.live, h))
 }
 
 // A tap's status, as an ISO one.

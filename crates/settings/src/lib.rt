@@ -12,6 +12,8 @@ mod spans;
 mod text;
 mod truth;
 
+pub use front::head as head_of;
+
 // The fields in front: CommMode (0 Plain, 1 MAC, 3 Full), the rights Read, Write, ReadWrite and Change, SDM, the four
 // options, SDMMetaRead, SDMFileRead and SDMCtrRet. With SDM off the parts of SDM are 0.
 pub struct Head {

@@ -19,9 +19,11 @@ use Rattle.settings.specs.declared.Normalised.{Normalised}
 use Rattle.settings.specs.declared.Normalised.the-variants.{Normal, BadString, RoomTooSmall}
 use Rattle.settings.specs.Answers.{judged, normalised, normalRoom}
 use Rattle.settings.specs.Normal.{normal}
+use Rattle.settings.specs.Fields.{readOf}
+use Rattle.settings.specs.Spans.{readingOf}
 use Rattle.state.specs.declared.Files.{Files}
-use Rattle.state.specs.State.{slotOf, rulesOf}
-use Rattle.state.specs.Sound.{good, rulesSound}
+use Rattle.state.specs.State.{slotOf, stringAt, rulesOf, headIn, readingIn}
+use Rattle.state.specs.Sound.{good, stringSound, rulesSound}
 use Rattle.state.proofs.Truth.{and-false}
 
 pub slot-small : (n : ℕ) → slotOf n ≤ 3
@@ -55,18 +57,26 @@ cut-string b s =
     (le-or-lt b 27)
 
 -- the part of the settings from a slot on is the file's string
+pub string-from : (rules lens : List ℕ) (n i len : ℕ) → i ≡ slotOf n → len ≡ cut (byteAt lens i)
+    → take (i * 27 + len - i * 27) (drop (i * 27) rules) ≡ stringAt rules lens n
+string-from rules lens n i len e l =
+    let d : i * 27 + len - i * 27 ≡ len = omega arith in
+    ap (λ k. take k (drop (i * 27) rules)) (d ∙ l)
+    ∙ cut-string (byteAt lens i) (drop (i * 27) rules)
+    ∙ ap (λ j. take (byteAt lens j) (take 27 (drop (j * 27) rules))) e
+
 pub string-there : (f : Files) (n i len : ℕ) → i ≡ slotOf n → len ≡ cut (byteAt (f .lens) i)
     → take (i * 27 + len - i * 27) (drop (i * 27) (f .rules)) ≡ rulesOf f n
 unfolding rulesOf
-string-there f n i len e l =
-    let d : i * 27 + len - i * 27 ≡ len = omega arith in
-    ap (λ k. take k (drop (i * 27) (f .rules))) (d ∙ l)
-    ∙ cut-string (byteAt (f .lens) i) (drop (i * 27) (f .rules))
-    ∙ ap (λ j. take (byteAt (f .lens) j) (take 27 (drop (j * 27) (f .rules)))) e
+string-there f n i len e l = string-from (f .rules) (f .lens) n i len e l
 
-rules-short : (f : Files) (n : ℕ) → length (rulesOf f n) ≤ 27
-unfolding rulesOf
-rules-short f n = simp length-take (omega arith)
+-- the fields in front are a part of the whole meaning
+pub head-there : (f : Files) (n : ℕ) → headIn (f .rules) (f .lens) n ≡ readingIn f n .settings .head
+unfolding headIn readingIn rulesOf readOf readingOf
+head-there f n = refl
+
+string-short : (rules lens : List ℕ) (n : ℕ) → length (stringAt rules lens n) ≤ 27
+string-short rules lens n = simp length-take (omega arith)
 
 -- what an accepted string leaves: k bytes in the room, and they are its normal form
 pub record Laid (v : Verdict) (s room new : List ℕ) (k : ℕ) : Type 0 where
@@ -104,9 +114,13 @@ laid-front {v} {s} {room} h =
 abbrev pub fine : Verdict → List ℕ → Bool
 fine v s = and (leb (length s) 27) (and (good v) (same s (normal s)))
 
-pub rules-fine : (f : Files) (n : ℕ) → fine (judged n (rulesOf f n)) (rulesOf f n) ≡ rulesSound f n
-unfolding rulesSound
-rules-fine f n = rw (le-leb (length (rulesOf f n)) 27 (rules-short f n)) refl
+pub string-fine : (rules lens : List ℕ) (n : ℕ)
+    → fine (judged n (stringAt rules lens n)) (stringAt rules lens n) ≡ stringSound n (stringAt rules lens n)
+string-fine rules lens n = rw (le-leb (length (stringAt rules lens n)) 27 (string-short rules lens n)) refl
+
+pub rules-there : (f : Files) (n : ℕ) {b : Bool} → b ≡ stringSound n (stringAt (f .rules) (f .lens) n) → b ≡ rulesSound f n
+unfolding rulesSound rulesOf
+rules-there f n e = e
 
 pub told-normal : {v : Verdict} {s room new : List ℕ} {k : ℕ} → length room ≡ 27 → Laid v s room new k
     → same s (take k new) ≡ fine v s

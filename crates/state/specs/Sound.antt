@@ -17,9 +17,13 @@ abbrev pub good : Verdict → Bool
 good Good = true
 good (Refused e) = false
 
+-- a string keeps the rules for file n and is its own normal form
+abbrev pub stringSound : ℕ → List ℕ → Bool
+stringSound n s = and (good (judged n s)) (same s (normal s))
+
 -- settings break the rules or aren't normal
 unfoldable pub rulesSound : Files → ℕ → Bool
-rulesSound f n = and (good (judged n (rulesOf f n))) (same (rulesOf f n) (normal (rulesOf f n)))
+rulesSound f n = stringSound n (rulesOf f n)
 
 -- key number of a session or pending part over 4; session and pending part both
 unfoldable pub keysSound : Bool → ℕ → Bool → ℕ → Bool

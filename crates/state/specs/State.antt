@@ -6,8 +6,9 @@ use lib.Dec.{eqb, leb}
 use lib.ListN.{take, drop, replicate}
 use Rattle.base.specs.Decide.{pick}
 use Rattle.base.specs.Bytes.{byteAt}
+use Rattle.settings.specs.declared.Head.{Head}
 use Rattle.settings.specs.declared.Reading.{Reading}
-use Rattle.settings.specs.Fields.{readOf}
+use Rattle.settings.specs.Fields.{headOf, readOf}
 use Rattle.settings.specs.Spans.{readingOf}
 use Rattle.state.specs.declared.Files.{Files}
 use Rattle.state.specs.declared.Live.{Live}
@@ -30,12 +31,20 @@ sizeOf n = byFile n 32 256 128 0
 unfoldable pub fileOf : Files → ℕ → List ℕ
 fileOf f n = take (sizeOf n) (drop (startOf n) (f .bytes))
 
--- the settings string of file n: as many bytes of its 27 as its length says
+-- a file's place among the settings
 unfoldable pub slotOf : ℕ → ℕ
 slotOf n = byFile n 0 1 2 3
 
+-- the settings string of file n: as many bytes of its 27 as its length says
+abbrev pub stringAt : List ℕ → List ℕ → ℕ → List ℕ
+stringAt rules lens n = take (byteAt lens (slotOf n)) (take 27 (drop (slotOf n * 27) rules))
+
 unfoldable pub rulesOf : Files → ℕ → List ℕ
-rulesOf f n = take (byteAt (f .lens) (slotOf n)) (take 27 (drop (slotOf n * 27) (f .rules)))
+rulesOf f n = stringAt (f .rules) (f .lens) n
+
+-- what the fields in front of it mean, and what all of it means
+unfoldable pub headIn : List ℕ → List ℕ → ℕ → Head
+headIn rules lens n = headOf (stringAt rules lens n)
 
 unfoldable pub readingIn : Files → ℕ → Reading
 readingIn f n = readingOf (readOf (rulesOf f n))

@@ -3,20 +3,17 @@ ghost use mathlib.Core.Path.{_≡_};
 ghost use lib.Dec.{leb};
 ghost use lib.ListN.{length};
 ghost use Rattle.base.specs.Decide.{and};
-ghost use Rattle.base.specs.Bytes.{same};
-ghost use Rattle.settings.specs.Answers.{judged};
-ghost use Rattle.settings.specs.Normal.{normal};
-ghost use Rattle.state.specs.Sound.{good, rulesSound, keysSound, aloneSound, levelSound, soundTag};
-use crate::Files;
+ghost use Rattle.state.specs.State.{stringAt};
+ghost use Rattle.state.specs.Sound.{stringSound, keysSound, aloneSound, levelSound, soundTag};
 use crate::Tag;
-use crate::parts::reading_of;
+use crate::parts::head_of;
 use crate::parts::slot_of;
 use crate::parts::string_len;
 use settings::Normalised;
 
 // Whether a string of at most 27 bytes keeps the rules for a file and is its own normal form.
 fn is_normal(n: u8, s: &[u8]) -> bool
-    ensures { λ r. ⌜ r ≡ and (leb (length (now (s .entry))) 27) (and (good (judged n (now (s .entry)))) (same (now (s .entry)) (normal (now (s .entry))))) ⌝ }
+    ensures { λ r. ⌜ r ≡ and (leb (length (now (s .entry))) 27) (stringSound n (now (s .entry))) ⌝ }
 {
     let mut room = [0u8; 27];
     let a = settings::normalise(n, s, &mut room);
@@ -28,15 +25,14 @@ fn is_normal(n: u8, s: &[u8]) -> bool
 }
 
 // The settings of a file keep the rules and are normal.
-fn rules_sound(f: Files, n: u8) -> bool
-    ensures { λ r. ⌜ r ≡ rulesSound f n ⌝ }
+fn rules_sound(rules: &[u8; 81], lens: [u8; 3], n: u8) -> bool
+    ensures { λ r. ⌜ r ≡ stringSound n (stringAt (now (rules .entry)) lens n) ⌝ }
 {
-    let rules = f.rules;
-    let lens = f.lens;
+    let all = &rules[..];
     let i = slot_of(n);
     let at = i * 27;
     let len = string_len(lens, i);
-    is_normal(n, &rules[at..at + len])
+    is_normal(n, &all[at..at + len])
 }
 
 // Key numbers over 4; session and pending part both.
@@ -102,13 +98,15 @@ pub fn sound(t: Tag) -> bool
     ensures { λ r. ⌜ r ≡ soundTag t ⌝ }
 {
     let uid = t.uid;
-    let sdm = reading_of(t.files, 2).settings.head.sdm;
+    let rules = t.files.rules;
+    let lens = t.files.lens;
+    let sdm = head_of(&rules, lens, 2).sdm;
     both(
-        rules_sound(t.files, 1),
+        rules_sound(&rules, lens, 1),
         both(
-            rules_sound(t.files, 2),
+            rules_sound(&rules, lens, 2),
             both(
-                rules_sound(t.files, 3),
+                rules_sound(&rules, lens, 3),
                 both(
                     t.tap.counter <= 16777215,
                     both(

@@ -14,6 +14,7 @@ pub use judging::sound;
 pub use parts::ended;
 pub use parts::file_size;
 pub use parts::file_start;
+pub use parts::head_of;
 pub use parts::key_of;
 pub use parts::no_live;
 pub use parts::no_pending;

@@ -3,12 +3,13 @@ ghost use mathlib.Core.Path.{_≡_};
 ghost use lib.Dec.{leb};
 ghost use Rattle.base.specs.Decide.{pick};
 ghost use Rattle.base.specs.Bytes.{byteAt};
-ghost use Rattle.state.specs.State.{startOf, sizeOf, slotOf, readingIn, keyIn, noLive, noPending, quieted, endedOf};
+ghost use Rattle.state.specs.State.{startOf, sizeOf, slotOf, headIn, readingIn, keyIn, noLive, noPending, quieted, endedOf};
 use crate::Files;
 use crate::Live;
 use crate::Pending;
 use crate::Tag;
 use crate::Tapping;
+use settings::Head;
 use settings::Reading;
 
 // Where a file's bytes begin; behind the last for any other number.
@@ -56,6 +57,17 @@ pub fn string_len(lens: [u8; 3], i: usize) -> usize
         return n;
     }
     27
+}
+
+// What the fields in front of a file's settings string mean.
+pub fn head_of(rules: &[u8; 81], lens: [u8; 3], n: u8) -> Head
+    ensures { λ r. ⌜ r ≡ headIn (now (rules .entry)) lens n ⌝ }
+{
+    let all = &rules[..];
+    let i = slot_of(n);
+    let at = i * 27;
+    let len = string_len(lens, i);
+    settings::head_of(&all[at..at + len])
 }
 
 // What a file's settings mean.

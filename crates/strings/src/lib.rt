@@ -5,7 +5,7 @@ ghost use Prim.Native.Nat.{min, _≤_};
 ghost use lib.ListN.{length};
 ghost use Rattle.base.specs.Decide.{pick, and};
 ghost use Rattle.base.specs.Bytes.{low};
-ghost use Rattle.state.specs.State.{readingIn};
+ghost use Rattle.state.specs.State.{headIn};
 ghost use Rattle.answer.specs.Answer.{Gives};
 ghost use Rattle.strings.specs.Strings.{cardUid, settingsReply, replied, fileSettings, withRules, recounted, restrung, changedSettings, fileCounters};
 use answer::Done;
@@ -93,11 +93,10 @@ fn with_rules(f: Files, n: u8, text: [u8; 27], len: u8) -> Files
 }
 
 // Whether SDM is on for file n.
-fn sdm_of(f: Files, n: u8) -> bool
-    ensures { λ r. ⌜ r ≡ readingIn f n .settings .head .sdm ⌝ }
+fn sdm_of(rules: &[u8; 81], lens: [u8; 3], n: u8) -> bool
+    ensures { λ r. ⌜ r ≡ headIn (now (rules .entry)) lens n .sdm ⌝ }
 {
-    let r = state::reading_of(f, n);
-    r.settings.head.sdm
+    state::head_of(rules, lens, n).sdm
 }
 
 // The tap counter after a change of SDM: 0 where it turns from off to on.
@@ -129,8 +128,12 @@ fn restring(tag: Tag, f: Files, n: u8) -> Tag
     ensures { λ r. ⌜ r ≡ restrung tag f n ⌝ }
 {
     let mut t = tag;
-    let before = sdm_of(t.files, n);
-    let after = sdm_of(f, n);
+    let old_rules = t.files.rules;
+    let old_lens = t.files.lens;
+    let before = sdm_of(&old_rules, old_lens, n);
+    let new_rules = f.rules;
+    let new_lens = f.lens;
+    let after = sdm_of(&new_rules, new_lens, n);
     let q = retap(t.tap, before, after);
     t.files = f;
     t.tap = q;

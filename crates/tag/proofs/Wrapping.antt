@@ -14,7 +14,7 @@ use lib.Seq.{take-append-seam}
 use Rattle.base.specs.Decide.{pick, and, or}
 use Rattle.base.specs.Bytes.{byteAt}
 use Rattle.base.proofs.Bytes.{and-right}
-use Rattle.settings.specs.declared.Reading.{Reading}
+use Rattle.settings.specs.declared.Head.{Head}
 use Rattle.messaging.specs.declared.Mode.{Mode}
 use Rattle.messaging.specs.declared.Session.{Session}
 use Rattle.messaging.specs.declared.Opened.{Opened}
@@ -24,8 +24,9 @@ use Rattle.messaging.specs.Command.{opening, openedStatus, told, left, answers,
 use Rattle.messaging.proofs.Opened.{the-type}
 use Rattle.state.specs.declared.Access.{Access}
 use Rattle.state.specs.declared.Tag.{Tag}
-use Rattle.state.specs.State.{readingIn}
+use Rattle.state.specs.State.{headIn}
 use Rattle.state.specs.Access.{accessFor}
+use Rattle.state.proofs.Strings.{head-there}
 use Rattle.answer.specs.declared.Done.{Done}
 use Rattle.answer.specs.Answer.{Answer, Gives, refusal, sessionOf}
 use Rattle.tag.specs.Wrapped.{oneOf, formRight, partOf, orderStatus, headerLength, hasData, frontStatus, own, openingOf, onOpening, inMode, onAccess, talk, commanded, wrapped}
@@ -158,11 +159,12 @@ module _ (t : Tag) (ins : ℕ) (x random : List ℕ) (s : ℕ) (e : s ≡ frontS
   unfolding talk
   talk-refused h = rw (← e, ne-eqb s 0 h) refl
 
-  pub talk-access : s ≡ 0 → (b : ℕ) (r : Reading) (a : Access) → b ≡ byteAt x 0 → r ≡ readingIn (t .files) b
-      → a ≡ accessFor ins (t .live) (r .settings .head) → onAccess t ins x random a ≡ talk t ins x random
+  pub talk-access : s ≡ 0 → (b : ℕ) (h : Head) (a : Access) → b ≡ byteAt x 0 → h ≡ headIn (t .files .rules) (t .files .lens) b
+      → a ≡ accessFor ins (t .live) h → onAccess t ins x random a ≡ talk t ins x random
   unfolding talk
-  talk-access z b r a eb er ea =
-      ap (onAccess t ins x random) (ea ∙ ap (λ i. accessFor ins (t .live) (i .settings .head)) (er ∙ ap (readingIn (t .files)) eb))
+  talk-access z b h a eb eh ea =
+      let k = eh ∙ ap (headIn (t .files .rules) (t .files .lens)) eb ∙ head-there (t .files) (byteAt x 0) in
+      ap (onAccess t ins x random) (ea ∙ ap (accessFor ins (t .live)) k)
       ∙ rw (← e, eq-eqb s 0 z) refl
 
 -- ---- steps 2 to 4, by whether the form is right and by the status of the order

@@ -196,7 +196,9 @@ fn talk(tag: Tag, ins: u8, x: &[u8], random: [u8; 20]) -> Done
     if s != 0 {
         return answer::refuse(tag, s);
     }
-    let h = state::reading_of(tag.files, base::at(x, 0)).settings.head;
+    let rules = tag.files.rules;
+    let lens = tag.files.lens;
+    let h = state::head_of(&rules, lens, base::at(x, 0));
     let a = state::access_for(ins, tag.live, h);
     match a {
         Access::Never => answer::refuse(tag, 0x919D),

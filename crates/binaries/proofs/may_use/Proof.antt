@@ -2,12 +2,13 @@
 use mathlib.Core.Path.{ap, _∙_}
 use borrow.Author.Needs.{needs}
 use Rattle.state.specs.Access.{accessFor}
+use Rattle.state.proofs.Strings.{head-there}
 use Rattle.binaries.specs.Binaries.{mayPass, mayUse}
 use Rattle.binaries.proofs.may_use.Statement.{statement}
 use Rattle.binaries.proofs.may_use.Tie as tie
 
-reading-of-requires : tie.Need-reading-of-requires
-reading-of-requires c κs = search needs
+head-of-requires : tie.Need-head-of-requires
+head-of-requires c κs = search needs
 
 access-for-requires : tie.Need-access-for-requires
 access-for-requires c κs = search needs
@@ -17,7 +18,7 @@ may-requires c κs = search needs
 
 returns : tie.Need-returns
 unfolding mayUse
-returns c = let a = c .before .before .before .args in c .may .ensures ∙ ap (mayPass (a .tag .live)) (c .before .access-for .ensures ∙ ap (λ r. accessFor (a .ins) (a .tag .live) (r .settings .head)) (c .before .before .reading-of .ensures))
+returns c = let a = c .before .before .before .before .before .before .args in c .may .ensures ∙ ap (mayPass (a .tag .live)) (c .before .access-for .ensures ∙ ap (accessFor (a .ins) (a .tag .live)) (c .before .before .head-of .ensures ∙ head-there (a .tag .files) (a .tag .place .file)))
 
 pub may-use-spec : {M : Type 1} → statement M
-may-use-spec = tie.close (tie.spec reading-of-requires access-for-requires may-requires returns)
+may-use-spec = tie.close (tie.spec head-of-requires access-for-requires may-requires returns)

@@ -1,5 +1,6 @@
 -- `strings::restring` meets its contract.
 use borrow.Author.Needs.{needs}
+use Rattle.state.proofs.Strings.{head-there}
 use Rattle.strings.specs.Strings.{restrung}
 use Rattle.strings.proofs.restring.Statement.{statement}
 use Rattle.strings.proofs.restring.Tie as tie
@@ -15,7 +16,7 @@ retap-requires c κs = search needs
 
 returns : tie.Need-returns
 unfolding restrung
-returns c = simp (c .retap .ensures, c .before .before .sdm-of .ensures, c .before .sdm-of2 .ensures)
+returns c = let a = c .before .before .before .before .before .before .before .before .before .args in simp (c .retap .ensures, c .before .before .before .before .before .sdm-of .ensures, c .before .sdm-of2 .ensures, head-there (a .tag .files) (a .n), head-there (a .f) (a .n))
 
 pub restring-spec : {M : Type 1} → statement M
 restring-spec = tie.close (tie.spec sdm-of-requires sdm-of-requires-2 retap-requires returns)

@@ -1,15 +1,15 @@
 -- `strings::sdm_of` meets its contract.
 use mathlib.Core.Path.{ap}
 use borrow.Author.Needs.{needs}
-use Rattle.settings.specs.declared.Reading.{Reading}
+use Rattle.settings.specs.declared.Head.{Head}
 use Rattle.strings.proofs.sdm_of.Statement.{statement}
 use Rattle.strings.proofs.sdm_of.Tie as tie
 
-reading-of-requires : tie.Need-reading-of-requires
-reading-of-requires c κs = search needs
+head-of-requires : tie.Need-head-of-requires
+head-of-requires c κs = search needs
 
 returns : tie.Need-returns
-returns c = ap (λ (x : Reading). x .settings .head .sdm) (c .reading-of .ensures)
+returns c = ap (λ (h : Head). h .sdm) (c .head-of .ensures)
 
 pub sdm-of-spec : {M : Type 1} → statement M
-sdm-of-spec = tie.close (tie.spec reading-of-requires returns)
+sdm-of-spec = tie.close (tie.spec head-of-requires returns)

@@ -1,10 +1,12 @@
 use Rattle.state.specs.Sound.{soundTag}
+use Rattle.state.proofs.Strings.{rules-there, head-there}
+use mathlib.Core.Path.{_∙_}
 use borrow.Author.Needs.{needs}
 use Rattle.state.proofs.judging.sound.Statement.{statement}
 use Rattle.state.proofs.judging.sound.Tie as tie
 
-reading-of-requires : tie.Need-reading-of-requires
-reading-of-requires c κs = search needs
+head-of-requires : tie.Need-head-of-requires
+head-of-requires c κs = search needs
 
 rules-sound-requires : tie.Need-rules-sound-requires
 rules-sound-requires c κs = search needs
@@ -50,13 +52,13 @@ both-requires-7 c κs = search needs
 
 returns : tie.Need-returns
 unfolding soundTag
-returns c = simp (c .both7 .ensures, c .before .both6 .ensures, c .before .before .both5 .ensures, c .before .before .before .both4 .ensures, c .before .before .before .before .both3 .ensures, c .before .before .before .before .before .both2 .ensures, c .before .before .before .before .before .before .both .ensures, c .before .before .before .before .before .before .before .level-sound .ensures, c .before .before .before .before .before .before .before .before .alone-sound .ensures, c .before .before .before .before .before .before .before .before .before .keys-sound .ensures, c .before .before .before .before .before .before .before .before .before .before .before .rules-sound3 .ensures, c .before .before .before .before .before .before .before .before .before .before .before .before .rules-sound2 .ensures, c .before .before .before .before .before .before .before .before .before .before .before .before .before .rules-sound .ensures, c .before .before .before .before .before .before .before .before .before .before .before .before .before .before .reading-of .ensures)
+returns c = let f = c .before .before .before .before .before .before .before .before .before .before .before .before .before .before .before .before .before .before .before .before .before .before .args .t .files in simp (c .both7 .ensures, c .before .both6 .ensures, c .before .before .both5 .ensures, c .before .before .before .both4 .ensures, c .before .before .before .before .both3 .ensures, c .before .before .before .before .before .both2 .ensures, c .before .before .before .before .before .before .both .ensures, c .before .before .before .before .before .before .before .level-sound .ensures, c .before .before .before .before .before .before .before .before .alone-sound .ensures, c .before .before .before .before .before .before .before .before .before .keys-sound .ensures, rules-there f 3 (c .before .before .before .before .before .before .before .before .before .before .before .rules-sound3 .ensures), rules-there f 2 (c .before .before .before .before .before .before .before .before .before .before .before .before .before .rules-sound2 .ensures), rules-there f 1 (c .before .before .before .before .before .before .before .before .before .before .before .before .before .before .before .rules-sound .ensures), c .before .before .before .before .before .before .before .before .before .before .before .before .before .before .before .before .before .head-of .ensures ∙ head-there f 2)
 
 pub sound-spec : {M : Type 1} → statement M
 sound-spec =
     tie.close
     (tie.spec
-    reading-of-requires
+    head-of-requires
     rules-sound-requires
     rules-sound-requires-2
     rules-sound-requires-3

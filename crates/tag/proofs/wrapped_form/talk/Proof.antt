@@ -19,8 +19,8 @@ returns c = let a = c .before .before .before .before .args in gives-as (c .refu
 at-requires : tie.Need-at-requires
 at-requires c κs = search needs
 
-reading-of-requires : tie.Need-reading-of-requires
-reading-of-requires c κs = search needs
+head-of-requires : tie.Need-head-of-requires
+head-of-requires c κs = search needs
 
 access-for-requires : tie.Need-access-for-requires
 access-for-requires c κs = search needs
@@ -45,14 +45,14 @@ in-mode-requires c κs = search needs
 
 returns-2 : tie.Need-returns-2
 unfolding accessStatus
-returns-2 c = let a = c .before .before .before .before .before .before .before .before .before .before .args in gives-as (c .refuse2 .ensures) (ap (onAccess (a .tag) (a .ins) (a .x .now) (a .random)) (sym (c .before .enum-told .given .1)) ∙ talk-access (a .tag) (a .ins) (a .x .now) (a .random) (c .before .before .before .before .before .before .before .before .front-status .result) (c .before .before .before .before .before .before .before .before .front-status .ensures) (c .before .before .before .before .before .before .before .if1 .left) (c .before .before .before .before .before .before .at .result) (c .before .before .before .before .before .reading-of .result) (c .before .before .before .access-for .result) (c .before .before .before .before .before .before .at .ensures) (c .before .before .before .before .before .reading-of .ensures) (c .before .before .before .access-for .ensures))
+returns-2 c = let a = c .before .before .before .before .before .before .before .before .before .before .before .before .args in gives-as (c .refuse2 .ensures) (ap (onAccess (a .tag) (a .ins) (a .x .now) (a .random)) (sym (c .before .enum-told .given .1)) ∙ talk-access (a .tag) (a .ins) (a .x .now) (a .random) (c .before .before .before .before .before .before .before .before .before .before .front-status .result) (c .before .before .before .before .before .before .before .before .before .before .front-status .ensures) (c .before .before .before .before .before .before .before .before .before .if1 .left) (c .before .before .before .before .before .at .result) (c .before .before .before .before .head-of .result) (c .before .before .before .access-for .result) (c .before .before .before .before .before .at .ensures) (c .before .before .before .before .head-of .ensures) (c .before .before .before .access-for .ensures))
 
 returns-3 : tie.Need-returns-3
 unfolding accessStatus
-returns-3 c = let a = c .before .before .before .before .before .before .before .before .before .before .args in gives-as (c .refuse3 .ensures) (ap (onAccess (a .tag) (a .ins) (a .x .now) (a .random)) (sym (c .before .enum-told2 .given .1)) ∙ talk-access (a .tag) (a .ins) (a .x .now) (a .random) (c .before .before .before .before .before .before .before .before .front-status .result) (c .before .before .before .before .before .before .before .before .front-status .ensures) (c .before .before .before .before .before .before .before .if1 .left) (c .before .before .before .before .before .before .at .result) (c .before .before .before .before .before .reading-of .result) (c .before .before .before .access-for .result) (c .before .before .before .before .before .before .at .ensures) (c .before .before .before .before .before .reading-of .ensures) (c .before .before .before .access-for .ensures))
+returns-3 c = let a = c .before .before .before .before .before .before .before .before .before .before .before .before .args in gives-as (c .refuse3 .ensures) (ap (onAccess (a .tag) (a .ins) (a .x .now) (a .random)) (sym (c .before .enum-told2 .given .1)) ∙ talk-access (a .tag) (a .ins) (a .x .now) (a .random) (c .before .before .before .before .before .before .before .before .before .before .front-status .result) (c .before .before .before .before .before .before .before .before .before .before .front-status .ensures) (c .before .before .before .before .before .before .before .before .before .if1 .left) (c .before .before .before .before .before .at .result) (c .before .before .before .before .head-of .result) (c .before .before .before .access-for .result) (c .before .before .before .before .before .at .ensures) (c .before .before .before .before .head-of .ensures) (c .before .before .before .access-for .ensures))
 
 returns-4 : tie.Need-returns-4
-returns-4 c = let a = c .before .before .before .before .before .before .before .before .before .before .before .args in gives-as (c .in-mode .ensures) (ap (onAccess (a .tag) (a .ins) (a .x .now) (a .random)) (sym (c .before .before .a .given .1)) ∙ talk-access (a .tag) (a .ins) (a .x .now) (a .random) (c .before .before .before .before .before .before .before .before .before .front-status .result) (c .before .before .before .before .before .before .before .before .before .front-status .ensures) (c .before .before .before .before .before .before .before .before .if1 .left) (c .before .before .before .before .before .before .before .at .result) (c .before .before .before .before .before .before .reading-of .result) (c .before .before .before .before .access-for .result) (c .before .before .before .before .before .before .before .at .ensures) (c .before .before .before .before .before .before .reading-of .ensures) (c .before .before .before .before .access-for .ensures))
+returns-4 c = let a = c .before .before .before .before .before .before .before .before .before .before .before .before .before .args in gives-as (c .in-mode .ensures) (ap (onAccess (a .tag) (a .ins) (a .x .now) (a .random)) (sym (c .before .before .a .given .1)) ∙ talk-access (a .tag) (a .ins) (a .x .now) (a .random) (c .before .before .before .before .before .before .before .before .before .before .before .front-status .result) (c .before .before .before .before .before .before .before .before .before .before .before .front-status .ensures) (c .before .before .before .before .before .before .before .before .before .before .if1 .left) (c .before .before .before .before .before .before .at .result) (c .before .before .before .before .before .head-of .result) (c .before .before .before .before .access-for .result) (c .before .before .before .before .before .before .at .ensures) (c .before .before .before .before .before .head-of .ensures) (c .before .before .before .before .access-for .ensures))
 
 pub talk-spec : {M : Type 1} → statement M
-talk-spec = tie.close (tie.spec front-status-requires refuse-requires returns at-requires reading-of-requires access-for-requires enum-told refuse-requires-2 enum-told-2 refuse-requires-3 enum-known-a in-mode-requires returns-2 returns-3 returns-4)
+talk-spec = tie.close (tie.spec front-status-requires refuse-requires returns at-requires head-of-requires access-for-requires enum-told refuse-requires-2 enum-told-2 refuse-requires-3 enum-known-a in-mode-requires returns-2 returns-3 returns-4)
