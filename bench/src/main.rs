@@ -55,7 +55,7 @@ fn measure(work: &Workload) -> bool {
 
 fn main() {
     println!("proved: libstand.a of `rt staticlib stand` (rattle's own release build), called through include/mainspur.h's functions");
-    println!("peer: rustc, opt-level 3, the same process; best of three rounds of about a second; images and replies on the stack");
+    println!("peer: rustc, opt-level 3, the same process; the fastest round of 1,000 calls in two seconds; images and replies on the stack");
     let done = match workloads() {
         Some(all) => all.iter().map(measure).filter(|fair| *fair).count() == all.len(),
         None => false,

@@ -7,6 +7,7 @@ use lib.Dec.{leb}
 use Rattle.base.specs.Decide.{pick}
 use Rattle.base.specs.Bytes.{byteAt, same, laid}
 use Rattle.sbox.specs.Tables.{sbox, invSbox}
+use Rattle.sbox.specs.Words.{mixingTable, unmixingTable}
 use Rattle.aes.specs.declared.Chained.{Chained}
 use Rattle.aes.specs.Block.{cipher, invCipher}
 use Rattle.aes.specs.Cbc.{cbcOut, cbcBack, Chains}
@@ -20,7 +21,7 @@ use Rattle.settings.specs.declared.Status.{Status}
 use Rattle.settings.specs.declared.Told.{Told}
 use Rattle.settings.specs.declared.Verdict.{Verdict}
 use Rattle.settings.specs.declared.Written.{Written}
-use Rattle.settings.specs.Fields.{readOf}
+use Rattle.settings.specs.Fields.{headOf, readOf}
 use Rattle.settings.specs.Spans.{readingOf}
 use Rattle.settings.specs.Rules.{meets}
 use Rattle.settings.specs.Answers.{statusWord, judged, normalised, normalRoom, readAs, writtenAs, writtenRoom}
@@ -55,7 +56,7 @@ use Rattle.state.specs.declared.Live.{Live}
 use Rattle.state.specs.declared.Pending.{Pending}
 use Rattle.state.specs.declared.Tag.{Tag}
 use Rattle.state.specs.declared.Tapping.{Tapping}
-use Rattle.state.specs.State.{startOf, sizeOf, slotOf, readingIn, keyIn, noLive, noPending, quieted, endedOf}
+use Rattle.state.specs.State.{startOf, sizeOf, slotOf, headIn, readingIn, keyIn, noLive, noPending, quieted, endedOf}
 use Rattle.state.specs.Access.{readGrant, writeGrant, accessFor}
 use Rattle.state.specs.Fresh.{born}
 use Rattle.state.specs.Sound.{soundTag}
@@ -78,6 +79,12 @@ forward-determined = once
 
 pub backward-determined : Determined (λ (r : List ℕ). r ≡ invSbox)
 backward-determined = once
+
+pub mixing-determined : Determined (λ (r : List ℕ). r ≡ mixingTable)
+mixing-determined = once
+
+pub unmixing-determined : Determined (λ (r : List ℕ). r ≡ unmixingTable)
+unmixing-determined = once
 
 -- ---- aes
 pub expand-determined : (key : List ℕ) → Determined (λ (r : List (List ℕ)). r ≡ keyExpansion key)
@@ -113,6 +120,10 @@ judge-determined file s = once
 pub normalise-determined : (file : ℕ) (s room : List ℕ)
     → DeterminedIn (λ (r : Normalised) (new : List ℕ). (r ≡ normalised (judged file s) s room) × (new ≡ normalRoom (judged file s) s room))
 normalise-determined file s room = twice
+
+-- `settings::head_of`
+pub front-determined : (s : List ℕ) → Determined (λ (r : Head). r ≡ headOf s)
+front-determined s = once
 
 pub meaning-determined : (s : List ℕ) → Determined (λ (r : Reading). r ≡ readingOf (readOf s))
 meaning-determined s = once
@@ -242,6 +253,9 @@ no-pending-determined = once
 
 pub quiet-determined : (t : Tapping) → Determined (λ (r : Tapping). r ≡ quieted t)
 quiet-determined t = once
+
+pub head-of-determined : (rules lens : List ℕ) (n : ℕ) → Determined (λ (r : Head). r ≡ headIn rules lens n)
+head-of-determined rules lens n = once
 
 pub reading-of-determined : (f : Files) (n : ℕ) → Determined (λ (r : Reading). r ≡ readingIn f n)
 reading-of-determined f n = once
