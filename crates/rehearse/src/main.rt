@@ -7,14 +7,13 @@ ghost use Rattle.rehearse.specs.Steps.{nextOf, Draws, Carried, Stepped, 
 use keep::Asked;
 use keep::Begun;
 use keep::Start;
-use plan::Meaning;
-use plan::Reason;
+use plans::Meaning;
+use plans::Reason;
 use state::Made;
 use state::Tag;
 
 mod keep;
 mod names;
-mod plan;
 mod show;
 mod summary;
 
@@ -83,7 +82,7 @@ fn step(tag: Tag, number: u64, line: &[u8]) -> Tag
 {
     let mut c = [0u8; 512];
     let mut x = [0u8; 20];
-    let m = plan::line_meaning(line, &mut c, &mut x);
+    let m = plans::line_meaning(line, &mut c, &mut x);
     carried(tag, number, m, &c, &x)
 }
 
@@ -104,15 +103,16 @@ fn steps(tag: Tag, text: &[u8]) -> Tag
     t
 }
 
-// Line one ends at `end`.
-fn run(path: &[u8], text: &[u8], end: usize) {
+// Rehearses a plan: line one is the UID.
+fn run(path: &[u8], text: &[u8]) {
     let mut uid = [0u8; 7];
+    let end = lines::find(text, 0, b'\n');
     if end < text.len() {
         let next = end + 1;
-        if plan::line_uid(&text[..end], &mut uid) {
+        if plans::line_uid(&text[..end], &mut uid) {
             return begin(path, &uid, &text[next..]);
         }
-    } else if plan::line_uid(text, &mut uid) {
+    } else if plans::line_uid(text, &mut uid) {
         return begin(path, &uid, b"");
     }
     show::no_uid();
@@ -201,8 +201,7 @@ fn play(path: &[u8]) {
         show::too_long();
         return;
     }
-    let end = lines::find(&text[..n], 0, b'\n');
-    run(path, &text[..n], end);
+    run(path, &text[..n]);
 }
 
 // The same with the file that --image names. Its name and .new must be a path.

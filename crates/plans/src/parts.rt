@@ -1,26 +1,11 @@
-// A line of a plan: what it means, or why it is bad.
+// The characters of a line: those that count, the digits among them, and what they mean.
 ghost use mathlib.Core.Path.{_≡_};
 ghost use lib.ListN.{length, take};
 ghost use Rattle.base.specs.Bytes.{over};
-ghost use Rattle.rehearse.specs.Plan.{isBlank, capitalOf, tidied, said, strayIn, digitsOf, digitsRoom, goodBytes, bytesRoom, givenBy, drawnBy, meaningOf, commandRoom, randomRoom};
+ghost use Rattle.plans.specs.Plan.{isBlank, capitalOf, tidied, strayIn, digitsOf, digitsRoom, goodBytes, bytesRoom, givenBy, drawnBy, meaningOf, commandRoom, randomRoom};
+use crate::Meaning;
+use crate::Reason;
 use lines::Decoded;
-
-// Why a line is bad.
-pub enum Reason {
-    NoCommand,
-    Stray,
-    OddDigits,
-    TooLong,
-    BadRandom,
-}
-
-// What a line asks for: a command of so many bytes with random bytes of the machine, or with those that it brings.
-pub enum Meaning {
-    Blank,
-    Drawn(usize),
-    Given(usize),
-    Bad(Reason),
-}
 
 // The bytes of a text of digits, or why there are none.
 pub enum Digits {
@@ -54,7 +39,7 @@ fn capital(c: u8) -> u8
 }
 
 // The characters that count, as capitals, at the front of the room, as many as it takes.
-fn tidy(line: &[u8], room: &mut [u8]) -> usize
+pub fn tidy(line: &[u8], room: &mut [u8]) -> usize
     ensures count { λ r. ⌜ r ≡ length (take (length (now (room .entry))) (tidied (now (line .entry)))) ⌝ }
     ensures left { λ r. ⌜ now (room .exit) ≡ over (take (length (now (room .entry))) (tidied (now (line .entry)))) (now (room .entry)) ⌝ }
 {
@@ -110,7 +95,7 @@ fn command_bytes(s: &[u8], room: &mut [u8]) -> Digits
 }
 
 // Whether a text is as many bytes as the room has; they are then in it.
-fn bytes_given(s: &[u8], room: &mut [u8]) -> bool
+pub fn bytes_given(s: &[u8], room: &mut [u8]) -> bool
     ensures answer { λ r. ⌜ r ≡ goodBytes (length (now (room .entry))) (now (s .entry)) ⌝ }
     ensures left { λ r. ⌜ now (room .exit) ≡ bytesRoom (now (s .entry)) (now (room .entry)) ⌝ }
 {
@@ -156,7 +141,7 @@ fn without_random(front: &[u8], command: &mut [u8]) -> Meaning
 }
 
 // What a tidied line means.
-fn tidy_meaning(s: &[u8], command: &mut [u8], random: &mut [u8]) -> Meaning
+pub fn tidy_meaning(s: &[u8], command: &mut [u8], random: &mut [u8]) -> Meaning
     ensures answer { λ r. ⌜ r ≡ meaningOf (now (s .entry)) (now (command .entry)) (now (random .entry)) ⌝ }
     ensures command { λ r. ⌜ now (command .exit) ≡ commandRoom (now (s .entry)) (now (command .entry)) ⌝ }
     ensures random { λ r. ⌜ now (random .exit) ≡ randomRoom (now (s .entry)) (now (random .entry)) ⌝ }
@@ -173,27 +158,4 @@ fn tidy_meaning(s: &[u8], command: &mut [u8], random: &mut [u8]) -> Meaning
         return with_random(&s[..at], &s[next..], command, random);
     }
     without_random(&s[..at], command)
-}
-
-// What a line means. The command's bytes are at the front of their room, random bytes that it brings in theirs.
-pub fn line_meaning(line: &[u8], command: &mut [u8], random: &mut [u8]) -> Meaning
-    ensures answer { λ r. ⌜ r ≡ meaningOf (said (now (line .entry))) (now (command .entry)) (now (random .entry)) ⌝ }
-    ensures command { λ r. ⌜ now (command .exit) ≡ commandRoom (said (now (line .entry))) (now (command .entry)) ⌝ }
-    ensures random { λ r. ⌜ now (random .exit) ≡ randomRoom (said (now (line .entry))) (now (random .entry)) ⌝ }
-{
-    let mut q = [0u8; 1100];
-    let e = lines::find(line, 0, b'#');
-    let n = tidy(&line[..e], &mut q);
-    tidy_meaning(&q[..n], command, random)
-}
-
-// Whether a line is a UID of 7 bytes; they are then in the room.
-pub fn line_uid(line: &[u8], room: &mut [u8; 7]) -> bool
-    ensures answer { λ r. ⌜ r ≡ goodBytes 7 (said (now (line .entry))) ⌝ }
-    ensures left { λ r. ⌜ now (room .exit) ≡ bytesRoom (said (now (line .entry))) (now (room .entry)) ⌝ }
-{
-    let mut q = [0u8; 1100];
-    let e = lines::find(line, 0, b'#');
-    let n = tidy(&line[..e], &mut q);
-    bytes_given(&q[..n], room)
 }

@@ -1,14 +1,14 @@
--- `rehearse::plan::bytes_given` meets its contract.
+-- `plans::parts::bytes_given` meets its contract.
 use Prim.Native.Nat.{_/_}
 use lib.ListN.{length}
 use mathlib.Core.Path.{refl, sym, _∙_}
 use borrow.Author.Tests.{eq-eqb, ne-eqb, le-leb}
 use Rattle.lines.specs.Hex.{decodedRoom}
-use Rattle.rehearse.specs.Plan.{goodBytes, bytesRoom}
+use Rattle.plans.specs.Plan.{goodBytes, bytesRoom}
 use native.Mathlib.Omega.{arith}
 use borrow.Author.Needs.{needs}
-use Rattle.rehearse.proofs.plan.bytes_given.Statement.{statement}
-use Rattle.rehearse.proofs.plan.bytes_given.Tie as tie
+use Rattle.plans.proofs.parts.bytes_given.Statement.{statement}
+use Rattle.plans.proofs.parts.bytes_given.Tie as tie
 
 returns : tie.Need-returns
 unfolding goodBytes bytesRoom

@@ -1,8 +1,8 @@
--- `rehearse::plan::is_blank` meets its contract.
+-- `plans::parts::is_blank` meets its contract.
 use Rattle.base.proofs.Bytes.{tests}
-use Rattle.rehearse.specs.Plan.{isBlank}
-use Rattle.rehearse.proofs.plan.is_blank.Statement.{statement}
-use Rattle.rehearse.proofs.plan.is_blank.Tie as tie
+use Rattle.plans.specs.Plan.{isBlank}
+use Rattle.plans.proofs.parts.is_blank.Statement.{statement}
+use Rattle.plans.proofs.parts.is_blank.Tie as tie
 
 returns : tie.Need-returns
 unfolding isBlank

@@ -1,15 +1,15 @@
--- `rehearse::plan::tidy_meaning` meets its contract.
+-- `plans::parts::tidy_meaning` meets its contract.
 use Prim.Native.Nat.{_+_}
-use Rattle.rehearse.specs.Plan.{goodBytes, bytesRoom, givenBy, digitsOf, slash, meaningOf, commandRoom, randomRoom}
-use Rattle.rehearse.proofs.Tidying.{from-on}
+use Rattle.plans.specs.Plan.{goodBytes, bytesRoom, givenBy, digitsOf, slash, meaningOf, commandRoom, randomRoom}
+use Rattle.plans.proofs.Tidying.{from-on}
 use borrow.Author.Tests.{lt-ltb, le-ltb, eq-eqb, ne-eqb, le-leb, lt-leb}
 use mathlib.Core.Path.{refl, sym, ap, _∙_}
 use lib.ListN.{length, take, length-take}
 use Rattle.lines.proofs.Steps.{seek-within}
 use native.Mathlib.Omega.{arith}
 use borrow.Author.Needs.{needs}
-use Rattle.rehearse.proofs.plan.tidy_meaning.Statement.{statement}
-use Rattle.rehearse.proofs.plan.tidy_meaning.Tie as tie
+use Rattle.plans.proofs.parts.tidy_meaning.Statement.{statement}
+use Rattle.plans.proofs.parts.tidy_meaning.Tie as tie
 
 returns : tie.Need-returns
 unfolding meaningOf commandRoom randomRoom

@@ -1,10 +1,10 @@
--- `rehearse::plan::command_bytes` meets its contract.
+-- `plans::parts::command_bytes` meets its contract.
 use mathlib.Core.Path.{refl, sym, _∙_}
 use borrow.Author.Tests.{eq-eqb, ne-eqb}
-use Rattle.rehearse.specs.Plan.{digitsOf, digitsRoom}
+use Rattle.plans.specs.Plan.{digitsOf, digitsRoom}
 use borrow.Author.Needs.{needs}
-use Rattle.rehearse.proofs.plan.command_bytes.Statement.{statement}
-use Rattle.rehearse.proofs.plan.command_bytes.Tie as tie
+use Rattle.plans.proofs.parts.command_bytes.Statement.{statement}
+use Rattle.plans.proofs.parts.command_bytes.Tie as tie
 
 returns : tie.Need-returns
 unfolding digitsOf digitsRoom

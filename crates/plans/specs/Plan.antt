@@ -10,11 +10,11 @@ use Rattle.lines.specs.Lines.{seek}
 use Rattle.lines.specs.Hex.{digitOf, isHex, bytesOf, decoded, decodedRoom}
 use Rattle.lines.specs.declared.Decoded.{Decoded}
 use Rattle.lines.specs.declared.Decoded.the-variants.{Bytes, NotHex, RoomTooSmall}
-use Rattle.rehearse.specs.declared.plan.Reason.the-variants.{NoCommand, Stray, OddDigits, TooLong, BadRandom}
-use Rattle.rehearse.specs.declared.plan.Meaning.{Meaning}
-use Rattle.rehearse.specs.declared.plan.Meaning.the-variants.{Blank, Drawn, Given, Bad}
-use Rattle.rehearse.specs.declared.plan.Digits.{Digits}
-use Rattle.rehearse.specs.declared.plan.Digits.the-variants.{Fine, Wrong}
+use Rattle.plans.specs.declared.Reason.the-variants.{NoCommand, Stray, OddDigits, TooLong, BadRandom}
+use Rattle.plans.specs.declared.Meaning.{Meaning}
+use Rattle.plans.specs.declared.Meaning.the-variants.{Blank, Drawn, Given, Bad}
+use Rattle.plans.specs.declared.parts.Digits.{Digits}
+use Rattle.plans.specs.declared.parts.Digits.the-variants.{Fine, Wrong}
 
 -- a space, a tab, a carriage return
 unfoldable pub isBlank : ℕ → Bool

@@ -1,8 +1,8 @@
--- `rehearse::plan::without_random` meets its contract.
+-- `plans::parts::without_random` meets its contract.
 use mathlib.Core.Path.{refl, sym, _∙_}
 use borrow.Author.Needs.{needs}
-use Rattle.rehearse.proofs.plan.without_random.Statement.{statement}
-use Rattle.rehearse.proofs.plan.without_random.Tie as tie
+use Rattle.plans.proofs.parts.without_random.Statement.{statement}
+use Rattle.plans.proofs.parts.without_random.Tie as tie
 
 command-bytes-requires : tie.Need-command-bytes-requires
 command-bytes-requires c κs = search needs

@@ -1,14 +1,14 @@
--- `rehearse::plan::line_meaning` meets its contract.
+-- `plans::line_meaning` meets its contract.
 use Prim.Native.Nat.{_≤_}
-use Rattle.rehearse.specs.Plan.{tidied, said, meaningOf, commandRoom, randomRoom}
-use Rattle.rehearse.proofs.Tidying.{seen, seen-fits, cut-meaning, cut-command, cut-random}
+use Rattle.plans.specs.Plan.{tidied, said, meaningOf, commandRoom, randomRoom}
+use Rattle.plans.proofs.Tidying.{seen, seen-fits, cut-meaning, cut-command, cut-random}
 use mathlib.Core.Path.{_≡_, refl, ap, _∙_}
 use lib.ListN.{length, take, replicate, length-take}
 use Rattle.lines.proofs.Steps.{seek-within}
 use native.Mathlib.Omega.{arith}
 use borrow.Author.Needs.{needs}
-use Rattle.rehearse.proofs.plan.line_meaning.Statement.{statement}
-use Rattle.rehearse.proofs.plan.line_meaning.Tie as tie
+use Rattle.plans.proofs.line_meaning.Statement.{statement}
+use Rattle.plans.proofs.line_meaning.Tie as tie
 
 find-requires : tie.Need-find-requires
 find-requires c κs = search needs

@@ -1,14 +1,14 @@
--- `rehearse::plan::stray` meets its contract.
+-- `plans::parts::stray` meets its contract.
 use mathlib.Core.Path.{_≡_, refl, sym, subst, _∙_}
 use Prim.Native.Nat.{_-_, _≤_, _<_}
 use lib.ListN.{length, drop, drop-of-length-le}
 use borrow.Author.Tests.{le-leb, lt-leb}
-use Rattle.rehearse.specs.Plan.{strayIn}
-use Rattle.rehearse.proofs.Tidying.{stray-step}
+use Rattle.plans.specs.Plan.{strayIn}
+use Rattle.plans.proofs.Tidying.{stray-step}
 use borrow.Author.Needs.{needs}
 use native.Mathlib.Omega.{arith}
-use Rattle.rehearse.proofs.plan.stray.Statement.{statement}
-use Rattle.rehearse.proofs.plan.stray.Tie as tie
+use Rattle.plans.proofs.parts.stray.Statement.{statement}
+use Rattle.plans.proofs.parts.stray.Tie as tie
 
 abbrev Inv-loop : tie.InvT-loop
 Inv-loop s i₀ i = (i ≤ length s) × (strayIn (drop i s) ≡ strayIn s)

@@ -14,9 +14,9 @@ use Rattle.base.specs.Decide.{pick, and, or}
 use Rattle.base.specs.Bytes.{over}
 use Rattle.base.proofs.Bytes.{Holds, le-or-lt}
 use Rattle.lines.specs.Hex.{digitOf}
-use Rattle.rehearse.specs.declared.plan.Meaning.the-variants.{Bad}
-use Rattle.rehearse.specs.declared.plan.Reason.the-variants.{TooLong}
-use Rattle.rehearse.specs.Plan.{isBlank, capitalOf, tidied, strayIn, goodBytes, bytesRoom, meaningOf, commandRoom, randomRoom}
+use Rattle.plans.specs.declared.Meaning.the-variants.{Bad}
+use Rattle.plans.specs.declared.Reason.the-variants.{TooLong}
+use Rattle.plans.specs.Plan.{isBlank, capitalOf, tidied, strayIn, goodBytes, bytesRoom, meaningOf, commandRoom, randomRoom}
 
 tidied-append : (a b : List ℕ) → tidied (a ++ b) ≡ tidied a ++ tidied b
 unfolding tidied

@@ -1,8 +1,8 @@
--- `rehearse::plan::with_random` meets its contract.
+-- `plans::parts::with_random` meets its contract.
 use mathlib.Core.Path.{refl, sym, _∙_}
 use borrow.Author.Needs.{needs}
-use Rattle.rehearse.proofs.plan.with_random.Statement.{statement}
-use Rattle.rehearse.proofs.plan.with_random.Tie as tie
+use Rattle.plans.proofs.parts.with_random.Statement.{statement}
+use Rattle.plans.proofs.parts.with_random.Tie as tie
 
 bytes-given-requires : tie.Need-bytes-given-requires
 bytes-given-requires c κs = search needs

@@ -1,14 +1,14 @@
--- `rehearse::plan::line_uid` meets its contract.
+-- `plans::line_uid` meets its contract.
 use Prim.Native.Nat.{_≤_}
-use Rattle.rehearse.specs.Plan.{tidied, said, goodBytes, bytesRoom}
-use Rattle.rehearse.proofs.Tidying.{seen, seen-fits, cut-good, cut-bytes}
+use Rattle.plans.specs.Plan.{tidied, said, goodBytes, bytesRoom}
+use Rattle.plans.proofs.Tidying.{seen, seen-fits, cut-good, cut-bytes}
 use mathlib.Core.Path.{_≡_, refl, ap, ap₂, _∙_}
 use lib.ListN.{length, take, replicate, length-take}
 use Rattle.lines.proofs.Steps.{seek-within}
 use native.Mathlib.Omega.{arith}
 use borrow.Author.Needs.{needs}
-use Rattle.rehearse.proofs.plan.line_uid.Statement.{statement}
-use Rattle.rehearse.proofs.plan.line_uid.Tie as tie
+use Rattle.plans.proofs.line_uid.Statement.{statement}
+use Rattle.plans.proofs.line_uid.Tie as tie
 
 find-requires : tie.Need-find-requires
 find-requires c κs = search needs

@@ -1,16 +1,16 @@
--- `rehearse::plan::tidy` meets its contract.
+-- `plans::parts::tidy` meets its contract.
 use mathlib.Core.Path.{_≡_, refl, sym, ap, _∙_}
 use Prim.Native.Nat.{_-_, _≤_}
 use lib.ListN.{length, take}
 use mathlib.Core.List.{[], _∷_}
 use Rattle.base.specs.Bytes.{laid}
 use Rattle.base.proofs.Bytes.{Holds, none, more, laid-length}
-use Rattle.rehearse.specs.Plan.{tidied}
-use Rattle.rehearse.proofs.Tidying.{tidied-blank, tidied-other, tidied-full, tidied-whole, held, renamed}
+use Rattle.plans.specs.Plan.{tidied}
+use Rattle.plans.proofs.Tidying.{tidied-blank, tidied-other, tidied-full, tidied-whole, held, renamed}
 use borrow.Author.Needs.{needs}
 use native.Mathlib.Omega.{arith}
-use Rattle.rehearse.proofs.plan.tidy.Statement.{statement}
-use Rattle.rehearse.proofs.plan.tidy.Tie as tie
+use Rattle.plans.proofs.parts.tidy.Statement.{statement}
+use Rattle.plans.proofs.parts.tidy.Tie as tie
 
 abbrev Inv-loop : tie.InvT-loop
 Inv-loop line room₀ i₀ n₀ room i n = (i ≤ length line) × (length room ≡ length room₀) × Holds (tidied (take i line)) room₀ room n × (n ≤ length room₀)

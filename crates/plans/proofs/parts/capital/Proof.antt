@@ -1,9 +1,9 @@
--- `rehearse::plan::capital` meets its contract.
+-- `plans::parts::capital` meets its contract.
 use Rattle.base.proofs.Bytes.{tests}
-use Rattle.rehearse.specs.Plan.{capitalOf}
+use Rattle.plans.specs.Plan.{capitalOf}
 use borrow.Author.Needs.{needs}
-use Rattle.rehearse.proofs.plan.capital.Statement.{statement}
-use Rattle.rehearse.proofs.plan.capital.Tie as tie
+use Rattle.plans.proofs.parts.capital.Statement.{statement}
+use Rattle.plans.proofs.parts.capital.Tie as tie
 
 sub-result : tie.Need-sub-result
 sub-result c = search needs
