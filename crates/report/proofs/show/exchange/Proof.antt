@@ -1,9 +1,9 @@
--- `rehearse::show::exchange` meets its contract.
+-- `report::show::exchange` meets its contract.
 use lib.ListN.{length-take}
 use native.Mathlib.Omega.{arith}
 use borrow.Author.Needs.{needs}
-use Rattle.rehearse.proofs.show.exchange.Statement.{statement}
-use Rattle.rehearse.proofs.show.exchange.Tie as tie
+use Rattle.report.proofs.show.exchange.Statement.{statement}
+use Rattle.report.proofs.show.exchange.Tie as tie
 
 slice-aggregate-say : tie.Need-slice-aggregate-say
 slice-aggregate-say c = search needs

@@ -1,10 +1,10 @@
--- `rehearse::show::characters` meets its contract.
+-- `report::show::characters` meets its contract.
 use Prim.Native.Nat.{_-_, _≤_}
 use lib.ListN.{length}
 use borrow.Author.Needs.{needs}
 use native.Mathlib.Omega.{arith}
-use Rattle.rehearse.proofs.show.characters.Statement.{statement}
-use Rattle.rehearse.proofs.show.characters.Tie as tie
+use Rattle.report.proofs.show.characters.Statement.{statement}
+use Rattle.report.proofs.show.characters.Tie as tie
 
 abbrev Inv-loop : tie.InvT-loop
 Inv-loop «data» i₀ i = i ≤ length «data»

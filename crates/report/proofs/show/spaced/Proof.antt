@@ -1,10 +1,10 @@
--- `rehearse::show::spaced` meets its contract.
+-- `report::show::spaced` meets its contract.
 use Prim.Native.Nat.{_-_, _≤_}
 use lib.ListN.{length}
 use borrow.Author.Needs.{needs}
 use native.Mathlib.Omega.{arith}
-use Rattle.rehearse.proofs.show.spaced.Statement.{statement}
-use Rattle.rehearse.proofs.show.spaced.Tie as tie
+use Rattle.report.proofs.show.spaced.Statement.{statement}
+use Rattle.report.proofs.show.spaced.Tie as tie
 
 abbrev Inv-loop : tie.InvT-loop
 Inv-loop s i₀ i = i ≤ length s

@@ -1,9 +1,9 @@
--- `rehearse::show::reply` meets its contract.
+-- `report::show::reply` meets its contract.
 use lib.ListN.{length-take}
 use native.Mathlib.Omega.{arith}
 use borrow.Author.Needs.{needs}
-use Rattle.rehearse.proofs.show.reply.Statement.{statement}
-use Rattle.rehearse.proofs.show.reply.Tie as tie
+use Rattle.report.proofs.show.reply.Statement.{statement}
+use Rattle.report.proofs.show.reply.Tie as tie
 
 slice-aggregate-say : tie.Need-slice-aggregate-say
 slice-aggregate-say c = search needs

@@ -1,11 +1,11 @@
--- `rehearse::show::printables` meets its contract.
+-- `report::show::printables` meets its contract.
 use mathlib.Core.Logic.{⊎-elim}
 use Prim.Native.Nat.{_-_, _≤_}
 use lib.ListN.{length}
 use borrow.Author.Needs.{needs}
 use native.Mathlib.Omega.{arith}
-use Rattle.rehearse.proofs.show.printables.Statement.{statement}
-use Rattle.rehearse.proofs.show.printables.Tie as tie
+use Rattle.report.proofs.show.printables.Statement.{statement}
+use Rattle.report.proofs.show.printables.Tie as tie
 
 abbrev Inv-loop : tie.InvT-loop
 Inv-loop s n₀ i₀ n i = (i ≤ length s) × (n ≤ i)
