@@ -1,3 +1,2 @@
 pub mod Keeping
-pub mod Tidying
 pub mod Walking

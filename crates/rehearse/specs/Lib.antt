@@ -1,3 +1,2 @@
 pub mod Keep
-pub mod Plan
 pub mod Steps

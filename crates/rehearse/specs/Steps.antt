@@ -9,9 +9,9 @@ use Rattle.base.specs.Decide.{pick}
 use Rattle.lines.specs.Lines.{before}
 use Rattle.state.specs.declared.Tag.{Tag}
 use Rattle.tag.specs.Call.{answered, outcomeOf, byOutcome}
-use Rattle.rehearse.specs.Plan.{said, meaningOf, commandRoom, randomRoom}
-use Rattle.rehearse.specs.declared.plan.Meaning.{Meaning}
-use Rattle.rehearse.specs.declared.plan.Meaning.the-variants.{Blank, Drawn, Given, Bad}
+use Rattle.plans.specs.Plan.{said, meaningOf, commandRoom, randomRoom}
+use Rattle.plans.specs.declared.Meaning.{Meaning}
+use Rattle.plans.specs.declared.Meaning.the-variants.{Blank, Drawn, Given, Bad}
 
 -- the tag behind a command
 unfoldable pub nextOf : Tag → List ℕ → List ℕ → Tag

@@ -7,16 +7,12 @@ ghost use Rattle.rehearse.specs.Steps.{nextOf, Draws, Carried, Stepped, 
 use keep::Asked;
 use keep::Begun;
 use keep::Start;
-use plan::Meaning;
-use plan::Reason;
+use plans::Meaning;
+use plans::Reason;
 use state::Made;
 use state::Tag;
 
 mod keep;
-mod names;
-mod plan;
-mod show;
-mod summary;
 
 // Prints a command, the tag's reply and, where settings were refused, that they were.
 fn exchange(tag: Tag, command: &[u8], random: &[u8]) -> Tag
@@ -24,7 +20,7 @@ fn exchange(tag: Tag, command: &[u8], random: &[u8]) -> Tag
 {
     let mut room = [0u8; 258];
     let d = tag::call(tag, command, random, &mut room);
-    show::exchange(command, &room, d.length);
+    report::exchange(command, &room, d.length);
     d.tag
 }
 
@@ -37,18 +33,21 @@ fn drawn(tag: Tag, number: u64, command: &[u8]) -> Tag
     if e == 0 {
         return exchange(tag, command, &random);
     }
-    show::skipped(number, b"the machine gives no random bytes");
+    report::skipped(number, b"the machine gives no random bytes");
     tag
 }
 
 // Says why a line is skipped.
 fn complain(number: u64, r: Reason) {
     match r {
-        Reason::NoCommand => show::skipped(number, b"no command before '/'"),
-        Reason::Stray => show::skipped(number, b"a character that is no hexadecimal digit"),
-        Reason::OddDigits => show::skipped(number, b"an odd number of digits"),
-        Reason::TooLong => show::skipped(number, b"more than 512 bytes"),
-        Reason::BadRandom => show::skipped(number, b"behind '/' there must be 20 bytes, 40 digits"),
+        Reason::NoCommand => report::skipped(number, b"no command before '/'"),
+        Reason::Stray => report::skipped(number, b"a character that is no hexadecimal digit"),
+        Reason::OddDigits => report::skipped(number, b"an odd number of digits"),
+        Reason::TooLong => report::skipped(number, b"more than 512 bytes"),
+        Reason::BadRandom => report::skipped(
+            number,
+            b"behind '/' there must be 20 bytes, 40 digits",
+        ),
     }
 }
 
@@ -83,7 +82,7 @@ fn step(tag: Tag, number: u64, line: &[u8]) -> Tag
 {
     let mut c = [0u8; 512];
     let mut x = [0u8; 20];
-    let m = plan::line_meaning(line, &mut c, &mut x);
+    let m = plans::line_meaning(line, &mut c, &mut x);
     carried(tag, number, m, &c, &x)
 }
 
@@ -104,18 +103,19 @@ fn steps(tag: Tag, text: &[u8]) -> Tag
     t
 }
 
-// Line one ends at `end`.
-fn run(path: &[u8], text: &[u8], end: usize) {
+// Rehearses a plan: line one is the UID.
+fn run(path: &[u8], text: &[u8]) {
     let mut uid = [0u8; 7];
+    let end = lines::find(text, 0, b'\n');
     if end < text.len() {
         let next = end + 1;
-        if plan::line_uid(&text[..end], &mut uid) {
+        if plans::line_uid(&text[..end], &mut uid) {
             return begin(path, &uid, &text[next..]);
         }
-    } else if plan::line_uid(text, &mut uid) {
+    } else if plans::line_uid(text, &mut uid) {
         return begin(path, &uid, b"");
     }
-    show::no_uid();
+    report::no_uid();
 }
 
 // Rehearses the lines behind line one with the tag of the file, or with a fresh one where there is no file.
@@ -140,7 +140,7 @@ fn anew(path: &[u8], uid: &[u8; 7], text: &[u8]) {
     let m = b.made;
     match m {
         Made::Fresh => finish(path, steps(t, text)),
-        Made::WrongUid => show::no_uid(),
+        Made::WrongUid => report::no_uid(),
     }
 }
 
@@ -168,7 +168,7 @@ fn go_on(path: &[u8], b: Begun, text: &[u8]) {
 
 // Says what the tag is in the end, and keeps it where a file is named.
 fn finish(path: &[u8], t: Tag) {
-    summary::print(t);
+    report::print(t);
     if 0 < path.len() {
         keep::store(path, t);
     }
@@ -198,11 +198,10 @@ fn play(path: &[u8]) {
     let mut text = [0u8; 262144];
     let n = io::read_full(0, &mut text);
     if n == 262144 {
-        show::too_long();
+        report::too_long();
         return;
     }
-    let end = lines::find(&text[..n], 0, b'\n');
-    run(path, &text[..n], end);
+    run(path, &text[..n]);
 }
 
 // The same with the file that --image names. Its name and .new must be a path.

@@ -5,6 +5,9 @@ use borrow.Author.Needs.{needs}
 use Rattle.rehearse.proofs.run.Statement.{statement}
 use Rattle.rehearse.proofs.run.Tie as tie
 
+find-requires : tie.Need-find-requires
+find-requires c κs = search needs
+
 add-next : tie.Need-add-next
 add-next c = search needs
 
@@ -51,6 +54,7 @@ pub run-spec : {M : Type 1} → statement M
 run-spec =
     tie.close
     (tie.spec
+    find-requires
     add-next
     slice-aggregate-line-uid
     line-uid-requires

@@ -1,0 +1,69 @@
+-- `plans::parts::command_bytes` meets its contract.
+use mathlib.Core.Path.{refl, sym, _∙_}
+use borrow.Author.Tests.{eq-eqb, ne-eqb}
+use Rattle.plans.specs.Plan.{digitsOf, digitsRoom}
+use borrow.Author.Needs.{needs}
+use Rattle.plans.proofs.parts.command_bytes.Statement.{statement}
+use Rattle.plans.proofs.parts.command_bytes.Tie as tie
+
+returns : tie.Need-returns
+unfolding digitsOf digitsRoom
+returns c = (rw (eq-eqb _ _ (c .if1 .taken)) refl, rw (eq-eqb _ _ (c .if1 .taken)) refl)
+
+stray-requires : tie.Need-stray-requires
+stray-requires c κs = search needs
+
+returns-2 : tie.Need-returns-2
+unfolding digitsOf digitsRoom
+returns-2 c = (rw (ne-eqb _ _ (c .before .before .if1 .left), sym (c .before .stray .ensures) ∙ c .if2 .taken) refl, rw (ne-eqb _ _ (c .before .before .if1 .left), sym (c .before .stray .ensures) ∙ c .if2 .taken) refl)
+
+decode-requires : tie.Need-decode-requires
+decode-requires c κs = search needs
+
+enum-known-d : tie.Need-enum-known-d
+enum-known-d c = search needs
+
+enum-told : tie.Need-enum-told
+enum-told c = search needs
+
+enum-told-2 : tie.Need-enum-told-2
+enum-told-2 c = search needs
+
+same-length : tie.Need-same-length
+same-length c = search needs
+
+returns-3 : tie.Need-returns-3
+unfolding digitsOf digitsRoom
+returns-3 c = (rw (ne-eqb _ _ (c .before .before .before .before .before .before .before .before .before .if1 .left), sym (c .before .before .before .before .before .before .before .before .stray .ensures) ∙ c .before .before .before .before .before .before .before .if2 .left, sym (c .before .before .before .before .before .decode .ensures .0) ∙ c .before .d .given .1) refl, c .before .before .before .before .before .decode .ensures .1 ∙ rw (ne-eqb _ _ (c .before .before .before .before .before .before .before .before .before .if1 .left), sym (c .before .before .before .before .before .before .before .before .stray .ensures) ∙ c .before .before .before .before .before .before .before .if2 .left) refl)
+
+same-length-2 : tie.Need-same-length-2
+same-length-2 c = search needs
+
+returns-4 : tie.Need-returns-4
+unfolding digitsOf digitsRoom
+returns-4 c = (rw (ne-eqb _ _ (c .before .before .before .before .before .before .before .before .if1 .left), sym (c .before .before .before .before .before .before .before .stray .ensures) ∙ c .before .before .before .before .before .before .if2 .left, sym (c .before .before .before .before .decode .ensures .0) ∙ c .enum-told .given .1) refl, c .before .before .before .before .decode .ensures .1 ∙ rw (ne-eqb _ _ (c .before .before .before .before .before .before .before .before .if1 .left), sym (c .before .before .before .before .before .before .before .stray .ensures) ∙ c .before .before .before .before .before .before .if2 .left) refl)
+
+same-length-3 : tie.Need-same-length-3
+same-length-3 c = search needs
+
+returns-5 : tie.Need-returns-5
+unfolding digitsOf digitsRoom
+returns-5 c = (rw (ne-eqb _ _ (c .before .before .before .before .before .before .before .before .if1 .left), sym (c .before .before .before .before .before .before .before .stray .ensures) ∙ c .before .before .before .before .before .before .if2 .left, sym (c .before .before .before .before .decode .ensures .0) ∙ c .enum-told2 .given .1) refl, c .before .before .before .before .decode .ensures .1 ∙ rw (ne-eqb _ _ (c .before .before .before .before .before .before .before .before .if1 .left), sym (c .before .before .before .before .before .before .before .stray .ensures) ∙ c .before .before .before .before .before .before .if2 .left) refl)
+
+pub command-bytes-spec : {M : Type 1} → statement M
+command-bytes-spec =
+    tie.close
+    (tie.spec
+    returns
+    stray-requires
+    returns-2
+    decode-requires
+    enum-known-d
+    enum-told
+    enum-told-2
+    same-length
+    returns-3
+    same-length-2
+    returns-4
+    same-length-3
+    returns-5)

@@ -1,0 +1,95 @@
+-- A line of a plan.
+use mathlib.Core.Bool.{Bool, false}
+use mathlib.Core.List.{List, [], _∷_}
+use Prim.Native.Nat.{ℕ, _+_, _-_, _/_}
+use lib.Dec.{eqb, leb, ltb}
+use lib.ListN.{length, take, drop}
+use Rattle.base.specs.Decide.{pick, and, or}
+use Rattle.base.specs.Bytes.{over}
+use Rattle.lines.specs.Lines.{seek}
+use Rattle.lines.specs.Hex.{digitOf, isHex, bytesOf, decoded, decodedRoom}
+use Rattle.lines.specs.declared.Decoded.{Decoded}
+use Rattle.lines.specs.declared.Decoded.the-variants.{Bytes, NotHex, RoomTooSmall}
+use Rattle.plans.specs.declared.Reason.the-variants.{NoCommand, Stray, OddDigits, TooLong, BadRandom}
+use Rattle.plans.specs.declared.Meaning.{Meaning}
+use Rattle.plans.specs.declared.Meaning.the-variants.{Blank, Drawn, Given, Bad}
+use Rattle.plans.specs.declared.parts.Digits.{Digits}
+use Rattle.plans.specs.declared.parts.Digits.the-variants.{Fine, Wrong}
+
+-- a space, a tab, a carriage return
+unfoldable pub isBlank : ℕ → Bool
+isBlank c = or (eqb c 32) (or (eqb c 9) (eqb c 13))
+
+-- a to f as A to F
+unfoldable pub capitalOf : ℕ → ℕ
+capitalOf c = pick (and (leb 97 c) (leb c 102)) (c - 32) c
+
+-- the characters that count, as capitals
+unfoldable pub tidied : List ℕ → List ℕ
+tidied [] = []
+tidied (x ∷ xs) = pick (isBlank x) (tidied xs) (capitalOf x ∷ tidied xs)
+
+-- what stands before '#', tidied
+unfoldable pub said : List ℕ → List ℕ
+said line = tidied (take (seek line 0 35) line)
+
+-- a character that is no digit
+unfoldable pub strayIn : List ℕ → Bool
+strayIn [] = false
+strayIn (x ∷ xs) = or (leb 16 (digitOf x)) (strayIn xs)
+
+-- the bytes of a command's digits
+abbrev pub asDigits : Decoded → Digits
+asDigits (Bytes n) = Fine n
+asDigits NotHex = Wrong OddDigits
+asDigits RoomTooSmall = Wrong TooLong
+
+unfoldable pub digitsOf : List ℕ → List ℕ → Digits
+digitsOf s room = pick (eqb (length s) 0) (Wrong NoCommand) (pick (strayIn s) (Wrong Stray) (asDigits (decoded s room)))
+
+unfoldable pub digitsRoom : List ℕ → List ℕ → List ℕ
+digitsRoom s room = pick (eqb (length s) 0) room (pick (strayIn s) room (decodedRoom s room))
+
+-- a text that is n bytes: the random bytes, or the UID
+unfoldable pub goodBytes : ℕ → List ℕ → Bool
+goodBytes n s = and (eqb (length s / 2) n) (isHex s)
+
+unfoldable pub bytesRoom : List ℕ → List ℕ → List ℕ
+bytesRoom s room = pick (goodBytes (length room) s) (over (bytesOf s) room) room
+
+-- where '/' stands, else the end; what is before it and what is behind it
+unfoldable pub slash : List ℕ → ℕ
+slash s = seek s 0 47
+
+abbrev pub front : List ℕ → List ℕ
+front s = take (slash s) s
+
+abbrev pub back : List ℕ → List ℕ
+back s = drop (slash s + 1) s
+
+-- a command without random bytes, and one with
+abbrev pub drawnBy : Digits → Meaning
+drawnBy (Fine n) = Drawn n
+drawnBy (Wrong r) = Bad r
+
+abbrev pub givenBy : Bool → Digits → Meaning
+givenBy good (Fine n) = pick good (Given n) (Bad BadRandom)
+givenBy good (Wrong r) = Bad r
+
+-- what the characters of a line mean; the rooms are the command's and the random bytes'
+unfoldable pub meaningOf : List ℕ → List ℕ → List ℕ → Meaning
+meaningOf s command random =
+    pick (eqb (length s) 0) Blank
+    (pick (leb 1100 (length s)) (Bad TooLong)
+    (pick (ltb (slash s) (length s))
+    (givenBy (goodBytes (length random) (back s)) (digitsOf (front s) command))
+    (drawnBy (digitsOf (front s) command))))
+
+-- what the line leaves in the two rooms
+unfoldable pub commandRoom : List ℕ → List ℕ → List ℕ
+commandRoom s room = pick (eqb (length s) 0) room (pick (leb 1100 (length s)) room (digitsRoom (front s) room))
+
+unfoldable pub randomRoom : List ℕ → List ℕ → List ℕ
+randomRoom s room =
+    pick (eqb (length s) 0) room
+    (pick (leb 1100 (length s)) room (pick (ltb (slash s) (length s)) (bytesRoom (back s) room) room))
