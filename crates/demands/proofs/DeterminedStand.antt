@@ -1,4 +1,6 @@
--- Each public function of image and of the C border: its promise, as the source states it, determines the result, the image and the room.
+-- Each public function of image, of the C border and of plans: its promise, as the source states it, determines the result, the image
+-- and the rooms.
+use mathlib.Core.Bool.{Bool}
 use mathlib.Core.List.{List}
 use mathlib.Core.Path.{_≡_}
 use Prim.Native.Nat.{ℕ}
@@ -9,6 +11,8 @@ use Rattle.image.specs.declared.Stored.{Stored}
 use Rattle.image.specs.Image.{imageLength}
 use Rattle.image.specs.Answers.{readIn, storedIn, imageIn}
 use Rattle.stand.specs.Answers.{Makes, Plays, verdictWord, normalNumber}
+use Rattle.plans.specs.declared.Meaning.{Meaning}
+use Rattle.plans.specs.Plan.{said, goodBytes, bytesRoom, meaningOf, commandRoom, randomRoom}
 use Rattle.demands.specs.Determining.{Determined, DeterminedIn}
 use Rattle.demands.proofs.Determined.{once, twice}
 
@@ -38,3 +42,15 @@ settings-check-determined file text = once
 pub settings-normalise-determined : (file : ℕ) (text room : List ℕ)
     → DeterminedIn (λ (r : ℕ) (new : List ℕ). (r ≡ normalNumber (normalised (judged file text) text room)) × (new ≡ normalRoom (judged file text) text room))
 settings-normalise-determined file text room = twice
+
+-- ---- plans
+pub line-meaning-determined : (line command random : List ℕ) (r q : Meaning) (command₁ command₂ random₁ random₂ : List ℕ)
+    → (r ≡ meaningOf (said line) command random) × ((command₁ ≡ commandRoom (said line) command) × (random₁ ≡ randomRoom (said line) random))
+    → (q ≡ meaningOf (said line) command random) × ((command₂ ≡ commandRoom (said line) command) × (random₂ ≡ randomRoom (said line) random))
+    → (r ≡ q) × ((command₁ ≡ command₂) × (random₁ ≡ random₂))
+line-meaning-determined line command random r q command₁ command₂ random₁ random₂ p h =
+    (once r q (p .0) (h .0), twice command₁ command₂ random₁ random₂ (p .1) (h .1))
+
+pub line-uid-determined : (line room : List ℕ)
+    → DeterminedIn (λ (r : Bool) (new : List ℕ). (r ≡ goodBytes 7 (said line)) × (new ≡ bytesRoom (said line) room))
+line-uid-determined line room = twice
