@@ -96,3 +96,26 @@ product-byte (suc n) k b h = step (eqb (k % 2) 1)
 
 pub mul-byte : (k b : ℕ) → b < 256 → mul k b < 256
 mul-byte k b h = product-byte 8 k b h
+
+-- ---- the factors of 5.1.3 and 5.3.3, from twice, four and eight times a byte
+xtime-zero : xtime 0 ≡ 0
+unfolding xtime
+xtime-zero = refl
+
+pub times-2 : (x : ℕ) → mul 2 x ≡ xtime x
+times-2 x = simp xtime-zero
+
+pub times-3 : (x : ℕ) → mul 3 x ≡ xtime x ⊕ x
+times-3 x = simp xtime-zero
+
+pub times-9 : (x : ℕ) → mul 9 x ≡ xtime (xtime (xtime x)) ⊕ x
+times-9 x = simp xtime-zero
+
+pub times-11 : (x : ℕ) → mul 11 x ≡ xtime (xtime (xtime x)) ⊕ xtime x ⊕ x
+times-11 x = simp (xtime-zero, xtime-linear)
+
+pub times-13 : (x : ℕ) → mul 13 x ≡ xtime (xtime (xtime x)) ⊕ xtime (xtime x) ⊕ x
+times-13 x = simp (xtime-zero, xtime-linear)
+
+pub times-14 : (x : ℕ) → mul 14 x ≡ xtime (xtime (xtime x)) ⊕ xtime (xtime x) ⊕ xtime x
+times-14 x = simp (xtime-zero, xtime-linear)
