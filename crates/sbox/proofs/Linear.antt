@@ -40,6 +40,9 @@ xor-left-comm a b c = sym (xor-assoc a b c) ∙ ap (λ (x : ℕ). x ⊕ c) (xor-
 pub xor-twice : (a b : ℕ) → (a ⊕ b) ⊕ b ≡ a
 xor-twice a b = xor-assoc a b b ∙ ap (λ (x : ℕ). a ⊕ x) (xor-self b) ∙ xor-zero-r a
 
+pub xor-again : (a b : ℕ) → a ⊕ (a ⊕ b) ≡ b
+xor-again a b = sym (xor-assoc a a b) ∙ ap (λ (x : ℕ). x ⊕ b) (xor-self a)
+
 pub xor-byte : (a b : ℕ) → a < 256 → b < 256 → a ⊕ b < 256
 xor-byte a b h k = xor-lt 8 a b h k
 
@@ -98,7 +101,7 @@ pub mul-byte : (k b : ℕ) → b < 256 → mul k b < 256
 mul-byte k b h = product-byte 8 k b h
 
 -- ---- the factors of 5.1.3 and 5.3.3, from twice, four and eight times a byte
-xtime-zero : xtime 0 ≡ 0
+pub xtime-zero : xtime 0 ≡ 0
 unfolding xtime
 xtime-zero = refl
 
