@@ -89,7 +89,7 @@ product-linear (suc n) k a b =
 pub mul-linear : (k a b : ℕ) → mul k (a ⊕ b) ≡ mul k a ⊕ mul k b
 mul-linear k a b = product-linear 8 k a b
 
-product-byte : (n k b : ℕ) → b < 256 → productOf n k b < 256
+pub product-byte : (n k b : ℕ) → b < 256 → productOf n k b < 256
 product-byte zero k b h = lit< tt
 product-byte (suc n) k b h = step (eqb (k % 2) 1)
   where
