@@ -1,10 +1,10 @@
 -- The two column products undo each other on bytes. Each is a sum of four linear functions of a turned column, so the
 -- product of both is one function of each byte: the byte itself for the first, 0 for the others. Each of these is a sum of
 -- doublings of the byte, in which all but the byte itself come an even number of times.
-use mathlib.Core.Path.{_≡_, refl, sym, ap, ap₂, _∙_}
+use mathlib.Core.Path.{_≡_, refl, _∙_}
 use Prim.Native.Nat.{ℕ, _<_}
-use lib.Bits.{bitXor, xor-zero-l, xor-zero-r, xor-comm, xor-self}
-use Rattle.sbox.specs.Field.{_⊕_, xtime, mul}
+use lib.Bits.{xor-zero-l, xor-zero-r, xor-comm, xor-self}
+use Rattle.sbox.specs.Field.{_⊕_, mul}
 use Rattle.sbox.specs.Columns.{mixed, unmixed}
 use Rattle.sbox.proofs.Linear.{xor-assoc, xor-left-comm, xor-again, xor-byte, xtime-zero, xtime-linear, mul-linear, mul-byte}
 

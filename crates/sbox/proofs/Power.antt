@@ -9,10 +9,11 @@ use Rattle.base.specs.Decide.{pick}
 use Rattle.sbox.specs.Field.{_⊕_, xtime, productOf, mul, squares, inverse}
 use Rattle.sbox.specs.Tables.{sbox}
 use Rattle.sbox.proofs.Linear.{xor-assoc, xor-again, xor-byte, xtime-zero, xtime-linear, xtime-byte, product-byte, mul-linear, mul-byte, times-2}
-use Rattle.sbox.proofs.Table.{every, entries}
+use Rattle.sbox.proofs.Table.{entries}
 
 -- what is linear on bytes and commutes with doubling, commutes with every product
-module _ (l : ℕ → ℕ) (linear : (a b : ℕ) → a < 256 → b < 256 → l (a ⊕ b) ≡ l a ⊕ l b) (doubled : (b : ℕ) → b < 256 → l (xtime b) ≡ xtime (l b)) where
+module _ (l : ℕ → ℕ) (linear : (a b : ℕ) → a < 256 → b < 256 → l (a ⊕ b) ≡ l a ⊕ l b)
+    (doubled : (b : ℕ) → b < 256 → l (xtime b) ≡ xtime (l b)) where
   through : (n k b : ℕ) → b < 256 → l (productOf n k b) ≡ productOf n k (l b)
   through zero k b h = linear 0 0 (lit< tt) (lit< tt) ∙ xor-self (l 0)
   through (suc n) k b h =

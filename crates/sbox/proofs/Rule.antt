@@ -1,9 +1,9 @@
 -- The tables' rule, over the whole of each: the S-box is the inverse in the field and then the affine step, the inverse
 -- table undoes it and is undone by it, and the inverse really is one.
 use mathlib.Core.Path.{_≡_, refl, sym, ap, _∙_}
-use mathlib.Core.Bool.{Bool, true, false}
-use mathlib.Core.List.{List, [], _∷_}
-use Prim.Native.Nat.{ℕ, zero, suc, _+_, _%_, _<_, _≤_}
+use mathlib.Core.Bool.{Bool}
+use mathlib.Core.List.{List}
+use Prim.Native.Nat.{ℕ, zero, suc, _+_, _%_, _<_}
 use mathlib.Core.Logic.{⊎-elim}
 use lib.Dec.{T, eqb, eqb→eq, ltb, ltb→lt, lit<}
 use lib.ListN.{length, getD, List·getD-eq-default}

@@ -1,8 +1,7 @@
 -- `sbox::unmixing` meets its contract: the constant is what the rule gives, computed over the whole table. Twice, four and
 -- eight times a byte are computed once for all four products.
-use mathlib.Core.Path.{_≡_, refl, sym, _∙_}
+use mathlib.Core.Path.{_≡_, refl, _∙_}
 use Prim.Native.Nat.{ℕ}
-use Rattle.base.specs.Bytes.{tab}
 use Rattle.base.proofs.Bytes.{tab-ext}
 use Rattle.sbox.specs.Field.{_⊕_, xtime}
 use Rattle.sbox.specs.Words.{packed, unmixes, unmixingTable}
