@@ -1,27 +1,15 @@
 -- The two column products undo each other on bytes. Each is a sum of four linear functions of a turned column, so the
--- product of both is one function of each byte: the byte itself for the first, 0 for the others. Four tests over all bytes.
-use mathlib.Core.Path.{_≡_, refl, sym, ap, ap₂, _∙_}
-use mathlib.Core.Bool.{Bool, true, false}
+-- product of both is one function of each byte: the byte itself for the first, 0 for the others. Each of these is a sum of
+-- doublings of the byte, in which all but the byte itself come an even number of times.
+use mathlib.Core.Path.{_≡_, refl, _∙_}
 use Prim.Native.Nat.{ℕ, _<_}
-use lib.Bits.{bitXor, xor-zero-r, xor-comm}
-use lib.Dec.{T, eqb, eqb→eq}
-use lib.ListN.{getD}
-use Rattle.base.specs.Decide.{and}
-use Rattle.sbox.specs.Field.{_⊕_, xtime, mul}
+use lib.Bits.{xor-zero-l, xor-zero-r, xor-comm, xor-self}
+use Rattle.sbox.specs.Field.{_⊕_, mul}
 use Rattle.sbox.specs.Columns.{mixed, unmixed}
-use Rattle.sbox.specs.Tables.{sbox}
-use Rattle.sbox.proofs.Linear.{xor-assoc, xor-left-comm, xor-byte, mul-linear, mul-byte}
-use Rattle.sbox.proofs.Table.{every, entries}
+use Rattle.sbox.proofs.Linear.{xor-assoc, xor-left-comm, xor-again, xor-byte, xtime-zero, xtime-linear, mul-linear, mul-byte}
 
 four-sum : (w x y z a : ℕ) → w ≡ a → x ≡ 0 → y ≡ 0 → z ≡ 0 → w ⊕ x ⊕ y ⊕ z ≡ a
 four-sum w x y z a ew ex ey ez = rw (ew, ex, ey, ez) (simp xor-zero-r)
-
-four-tests : (w x y z : Bool) → T (and w (and x (and y z))) → T w × T x × T y × T z
-four-tests true true true true t = (tt, tt, tt, tt)
-four-tests true true true false t = absurd t
-four-tests true true false z t = absurd t
-four-tests true false y z t = absurd t
-four-tests false x y z t = absurd t
 
 abbrev Linear : (ℕ → ℕ) → Type 0
 Linear f = (a b : ℕ) → f (a ⊕ b) ≡ f a ⊕ f b
@@ -45,20 +33,11 @@ module _ (f g h k p q r s : ℕ → ℕ) where
       ≡ first a ⊕ second b ⊕ third c ⊕ fourth d
   gathered lf lg lh lk a b c d = simp (lf, lg, lh, lk, xor-assoc, xor-comm, xor-left-comm)
 
-  -- the four tests at a byte
-  abbrev passes : ℕ → ℕ → Bool
-  passes x y = and (eqb (first x) x) (and (eqb (second x) 0) (and (eqb (third x) 0) (eqb (fourth x) 0)))
-
-  undone : Linear f → Linear g → Linear h → Linear k → T (every passes 0 sbox) → (a b c d : ℕ) → a < 256 → b < 256 → c < 256 → d < 256
+  undone : Linear f → Linear g → Linear h → Linear k
+      → ((x : ℕ) → first x ≡ x) → ((x : ℕ) → second x ≡ 0) → ((x : ℕ) → third x ≡ 0) → ((x : ℕ) → fourth x ≡ 0) → (a b c d : ℕ)
       → f (p a ⊕ q b ⊕ r c ⊕ s d) ⊕ g (p b ⊕ q c ⊕ r d ⊕ s a) ⊕ h (p c ⊕ q d ⊕ r a ⊕ s b) ⊕ k (p d ⊕ q a ⊕ r b ⊕ s c) ≡ a
-  unfolding sbox
-  undone lf lg lh lk t a b c d ha hb hc hd =
-      gathered lf lg lh lk a b c d
-      ∙ four-sum (first a) (second b) (third c) (fourth d) a (eqb→eq (first a) a (at a ha .0)) (eqb→eq (second b) 0 (at b hb .1))
-      (eqb→eq (third c) 0 (at c hc .2)) (eqb→eq (fourth d) 0 (at d hd .3))
-    where
-      at : (x : ℕ) → x < 256 → T (eqb (first x) x) × T (eqb (second x) 0) × T (eqb (third x) 0) × T (eqb (fourth x) 0)
-      at x l = four-tests (eqb (first x) x) (eqb (second x) 0) (eqb (third x) 0) (eqb (fourth x) 0) (entries passes sbox t x l)
+  undone lf lg lh lk e1 e2 e3 e4 a b c d =
+      gathered lf lg lh lk a b c d ∙ four-sum (first a) (second b) (third c) (fourth d) a (e1 a) (e2 b) (e3 c) (e4 d)
 
 pub mixed-byte : (a b c d : ℕ) → a < 256 → b < 256 → c < 256 → d < 256 → mixed a b c d < 256
 unfolding mixed
@@ -72,14 +51,21 @@ unmixed-byte a b c d ha hb hc hd =
     (xor-byte (mul 14 a ⊕ mul 11 b) (mul 13 c) (xor-byte (mul 14 a) (mul 11 b) (mul-byte 14 a ha) (mul-byte 11 b hb)) (mul-byte 13 c hc))
     (mul-byte 9 d hd)
 
+-- a sum of doublings, each out where it comes twice
+ruleset cancel = (xtime-zero, xtime-linear, xor-assoc, xor-comm, xor-left-comm, xor-self, xor-again, xor-zero-l, xor-zero-r)
+
 -- the first byte of a column that was mixed and then unmixed
 pub unmixed-mixed : (a b c d : ℕ) → a < 256 → b < 256 → c < 256 → d < 256
     → unmixed (mixed a b c d) (mixed b c d a) (mixed c d a b) (mixed d a b c) ≡ a
-unfolding sbox mixed unmixed xtime
-unmixed-mixed = undone (mul 14) (mul 11) (mul 13) (mul 9) (mul 2) (mul 3) (λ x. x) (λ x. x) (mul-linear 14) (mul-linear 11) (mul-linear 13) (mul-linear 9) tt
+unfolding mixed unmixed
+unmixed-mixed a b c d ha hb hc hd =
+    undone (mul 14) (mul 11) (mul 13) (mul 9) (mul 2) (mul 3) (λ x. x) (λ x. x) (mul-linear 14) (mul-linear 11) (mul-linear 13) (mul-linear 9)
+    (λ x. simp cancel) (λ x. simp cancel) (λ x. simp cancel) (λ x. simp cancel) a b c d
 
 -- and the other way round
 pub mixed-unmixed : (a b c d : ℕ) → a < 256 → b < 256 → c < 256 → d < 256
     → mixed (unmixed a b c d) (unmixed b c d a) (unmixed c d a b) (unmixed d a b c) ≡ a
-unfolding sbox mixed unmixed xtime
-mixed-unmixed = undone (mul 2) (mul 3) (λ x. x) (λ x. x) (mul 14) (mul 11) (mul 13) (mul 9) (mul-linear 2) (mul-linear 3) (λ a b. refl) (λ a b. refl) tt
+unfolding mixed unmixed
+mixed-unmixed a b c d ha hb hc hd =
+    undone (mul 2) (mul 3) (λ x. x) (λ x. x) (mul 14) (mul 11) (mul 13) (mul 9) (mul-linear 2) (mul-linear 3) (λ a b. refl) (λ a b. refl)
+    (λ x. simp cancel) (λ x. simp cancel) (λ x. simp cancel) (λ x. simp cancel) a b c d

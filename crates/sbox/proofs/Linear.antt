@@ -40,6 +40,9 @@ xor-left-comm a b c = sym (xor-assoc a b c) ∙ ap (λ (x : ℕ). x ⊕ c) (xor-
 pub xor-twice : (a b : ℕ) → (a ⊕ b) ⊕ b ≡ a
 xor-twice a b = xor-assoc a b b ∙ ap (λ (x : ℕ). a ⊕ x) (xor-self b) ∙ xor-zero-r a
 
+pub xor-again : (a b : ℕ) → a ⊕ (a ⊕ b) ≡ b
+xor-again a b = sym (xor-assoc a a b) ∙ ap (λ (x : ℕ). x ⊕ b) (xor-self a)
+
 pub xor-byte : (a b : ℕ) → a < 256 → b < 256 → a ⊕ b < 256
 xor-byte a b h k = xor-lt 8 a b h k
 
@@ -86,7 +89,7 @@ product-linear (suc n) k a b =
 pub mul-linear : (k a b : ℕ) → mul k (a ⊕ b) ≡ mul k a ⊕ mul k b
 mul-linear k a b = product-linear 8 k a b
 
-product-byte : (n k b : ℕ) → b < 256 → productOf n k b < 256
+pub product-byte : (n k b : ℕ) → b < 256 → productOf n k b < 256
 product-byte zero k b h = lit< tt
 product-byte (suc n) k b h = step (eqb (k % 2) 1)
   where
@@ -96,3 +99,26 @@ product-byte (suc n) k b h = step (eqb (k % 2) 1)
 
 pub mul-byte : (k b : ℕ) → b < 256 → mul k b < 256
 mul-byte k b h = product-byte 8 k b h
+
+-- ---- the factors of 5.1.3 and 5.3.3, from twice, four and eight times a byte
+pub xtime-zero : xtime 0 ≡ 0
+unfolding xtime
+xtime-zero = refl
+
+pub times-2 : (x : ℕ) → mul 2 x ≡ xtime x
+times-2 x = simp xtime-zero
+
+pub times-3 : (x : ℕ) → mul 3 x ≡ xtime x ⊕ x
+times-3 x = simp xtime-zero
+
+pub times-9 : (x : ℕ) → mul 9 x ≡ xtime (xtime (xtime x)) ⊕ x
+times-9 x = simp xtime-zero
+
+pub times-11 : (x : ℕ) → mul 11 x ≡ xtime (xtime (xtime x)) ⊕ xtime x ⊕ x
+times-11 x = simp (xtime-zero, xtime-linear)
+
+pub times-13 : (x : ℕ) → mul 13 x ≡ xtime (xtime (xtime x)) ⊕ xtime (xtime x) ⊕ x
+times-13 x = simp (xtime-zero, xtime-linear)
+
+pub times-14 : (x : ℕ) → mul 14 x ≡ xtime (xtime (xtime x)) ⊕ xtime (xtime x) ⊕ xtime x
+times-14 x = simp (xtime-zero, xtime-linear)

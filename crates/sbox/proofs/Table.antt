@@ -9,11 +9,11 @@ use lib.Dec.{T}
 use lib.ListN.{length, getD}
 use Rattle.base.specs.Decide.{and}
 
-and-left : (a b : Bool) → T (and a b) → T a
+pub and-left : (a b : Bool) → T (and a b) → T a
 and-left true b t = tt
 and-left false b t = t
 
-and-right : (a b : Bool) → T (and a b) → T b
+pub and-right : (a b : Bool) → T (and a b) → T b
 and-right true b t = t
 and-right false b t = absurd t
 
