@@ -1,6 +1,7 @@
 pub mod Chaining
 pub mod Inverse
 pub mod KeyBlocks
+pub mod KeyWords
 pub mod Macs
 pub mod Rounds
 pub mod Schedule

@@ -69,7 +69,7 @@ module _ (a b c d : List ℕ) (la : length a ≡ 4) (lb : length b ≡ 4) (lc : 
       ap (λ l. fourAt (a ++ b ++ c ++ l) 12) (sym (append-nil d))
       ∙ four-behind (a ++ b ++ c) d [] 12 (simp (length-append, la, lb, lc)) ld
 
-  next-words : (box : List ℕ) (rc : ℕ) → nextKey box rc (a ++ b ++ c ++ d)
+  pub next-words : (box : List ℕ) (rc : ℕ) → nextKey box rc (a ++ b ++ c ++ d)
       ≡ (let x = firstWord box rc a d in let y = xorWord b x in let z = xorWord c y in x ++ y ++ z ++ xorWord d z)
   unfolding nextKey
   next-words box rc = rw (first-four, second-four, third-four, last-four) refl

@@ -37,7 +37,7 @@ turn-packed a b c d ha hb hc hd = omega arith
 byte-xor : (x y : ℕ) → (x ⊕ y) % 256 ≡ x % 256 ⊕ y % 256
 byte-xor x y = xor-mod x y 8
 
-rows-xor : (x y : ℕ) → rows (x ⊕ y) ≡ tab 4 (λ i. byteAt (rows x) i ⊕ byteAt (rows y) i)
+pub rows-xor : (x y : ℕ) → rows (x ⊕ y) ≡ tab 4 (λ i. byteAt (rows x) i ⊕ byteAt (rows y) i)
 unfolding rows
 rows-xor x y =
     let f : (x ⊕ y) / 256 % 256 ≡ x / 256 % 256 ⊕ y / 256 % 256 = ap (λ z. z % 256) (xor-shr x y 8) ∙ byte-xor (x / 256) (y / 256) in
@@ -50,7 +50,7 @@ rows-four : (w x y z : ℕ)
 rows-four w x y z = rw (rows-xor (w ⊕ x ⊕ y) z, rows-xor (w ⊕ x) y, rows-xor w x)
 
 -- ---- four words
-block-words : (a b c d : ℕ) (p q r s : List ℕ) → rows a ≡ p → rows b ≡ q → rows c ≡ r → rows d ≡ s
+pub block-words : (a b c d : ℕ) (p q r s : List ℕ) → rows a ≡ p → rows b ≡ q → rows c ≡ r → rows d ≡ s
     → blockOf (a ∷ b ∷ c ∷ d ∷ []) ≡ p ++ q ++ r ++ s
 unfolding blockOf
 block-words a b c d p q r s ea eb ec ed = rw (ea, eb, ec, ed)

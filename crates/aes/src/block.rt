@@ -37,7 +37,7 @@ fn wide(x: u8) -> u32
 }
 
 // The word of four bytes.
-fn pack(a: u8, b: u8, c: u8, d: u8) -> u32
+pub fn pack(a: u8, b: u8, c: u8, d: u8) -> u32
     ensures { λ r. ⌜ r ≡ packed a b c d ⌝ }
 {
     let w = wide(a);
@@ -60,7 +60,7 @@ fn unpack(x: u32) -> [u8; 4]
 }
 
 // The four words of a block.
-fn columns(s: [u8; 16]) -> [u32; 4]
+pub fn columns(s: [u8; 16]) -> [u32; 4]
     ensures { λ r. ⌜ blockOf r ≡ s ⌝ }
 {
     let a = pack(s[0], s[1], s[2], s[3]);
@@ -71,7 +71,7 @@ fn columns(s: [u8; 16]) -> [u32; 4]
 }
 
 // The block of four words.
-fn bytes_of(s: [u32; 4]) -> [u8; 16]
+pub fn bytes_of(s: [u32; 4]) -> [u8; 16]
     ensures { λ r. ⌜ r ≡ blockOf s ⌝ }
 {
     let a = unpack(s[0]);

@@ -4,16 +4,17 @@ use mathlib.Core.Path.{_≡_, refl, sym, ap, _∙_}
 use mathlib.Core.List.{[]}
 use Prim.Native.Nat.{_+_, _-_, _≤_}
 use native.Mathlib.Omega.{arith}
-use lib.ListN.{length}
 use Rattle.base.proofs.Fill.{Filled, filled-more, filled-all}
 use Rattle.aes.specs.Keys.{rcon, roundWords, keyExpansion}
+use Rattle.aes.specs.Words.{blockOf}
+use Rattle.aes.proofs.KeyWords.{block-length}
 use Rattle.aes.proofs.Schedule.{round-next, round-first, rcon-more}
 use borrow.Author.Needs.{needs}
 use Rattle.aes.proofs.keys.expand.Statement.{statement}
 use Rattle.aes.proofs.keys.expand.Tie as tie
 
 abbrev Inv-loop : tie.InvT-loop
-Inv-loop t w₀ k₀ rc₀ i₀ w k rc i = (i ≤ 10) × (length k₀ ≡ 16) × (rc ≡ rcon (i + 1)) × (k ≡ roundWords k₀ i) × Filled [] 11 (roundWords k₀) w (i + 1)
+Inv-loop t w₀ k₀ rc₀ i₀ w k rc i = (i ≤ 10) × (rc ≡ rcon (i + 1)) × (blockOf k ≡ roundWords (blockOf k₀) i) × Filled [] 11 (roundWords (blockOf k₀)) w (i + 1)
 
 abbrev μ-loop : tie.MeasureT-loop
 μ-loop t w₀ k₀ rc₀ i₀ w k rc i = 10 - i
@@ -21,13 +22,19 @@ abbrev μ-loop : tie.MeasureT-loop
 forward-requires : tie.Need-forward-requires Inv-loop μ-loop
 forward-requires c κs = search needs
 
+columns-requires : tie.Need-columns-requires Inv-loop μ-loop
+columns-requires c κs = search needs
+
 loop-holds : tie.Need-loop-holds Inv-loop μ-loop
 unfolding rcon
-loop-holds c = let key = c .before .args .key in let l : length key ≡ 16 = search needs in
-    (omega arith, l, refl, sym (round-first key l), record { long = refl; so-far = λ j h. let e : j ≡ 0 = omega arith in rw e (sym (round-first key l)) })
+loop-holds c = let k = c .columns .result in let e = round-first (blockOf k) (block-length k) in
+    (omega arith, refl, sym e, record { long = refl; so-far = λ j h. let z : j ≡ 0 = omega arith in rw z (sym (e ∙ c .columns .ensures)) })
 
 next-key-requires : tie.Need-next-key-requires Inv-loop μ-loop
 next-key-requires c κs = search needs
+
+bytes-of-requires : tie.Need-bytes-of-requires Inv-loop μ-loop
+bytes-of-requires c κs = search needs
 
 double-requires : tie.Need-double-requires Inv-loop μ-loop
 double-requires c κs = search needs
@@ -48,12 +55,13 @@ loop-less : tie.Need-loop-less Inv-loop μ-loop
 loop-less c = search needs
 
 loop-again : tie.Need-loop-again Inv-loop μ-loop
-loop-again c = let n : c .before .next-key .result ≡ roundWords (c .before .before .before .before .before .before .args .key) (c .before .before .before .before .loop .i + 1) = c .before .next-key .ensures ∙ rw (c .before .before .before .before .before .forward .ensures, c .before .before .before .before .loop .inv .2, c .before .before .before .before .loop .inv .3) (sym (round-next (c .before .before .before .before .before .before .args .key) (c .before .before .before .before .loop .inv .1) (c .before .before .before .before .loop .i))) in
-    (omega arith, c .before .before .before .before .loop .inv .1, c .double .ensures ∙ ap xtime (c .before .before .before .before .loop .inv .2) ∙ sym (rcon-more (c .before .before .before .before .loop .i)), n, filled-more [] 11 _ _ (c .before .before .before .before .loop .i + 1) _ (c .before .before .before .before .loop .inv .4) (omega arith) n)
+loop-again c = let i = c .before .before .before .before .before .loop .i in let k = c .before .before .before .before .before .before .columns .result in
+    let n : blockOf (c .before .before .next-key .result) ≡ roundWords (blockOf k) (i + 1) = c .before .before .next-key .ensures ∙ rw (c .before .before .before .before .before .loop .inv .1, c .before .before .before .before .before .loop .inv .2) (sym (round-next (blockOf k) (block-length k) i)) in
+    (omega arith, c .double .ensures ∙ ap xtime (c .before .before .before .before .before .loop .inv .1) ∙ sym (rcon-more i), n, filled-more [] 11 _ _ (i + 1) _ (c .before .before .before .before .before .loop .inv .3) (omega arith) (c .before .bytes-of .ensures ∙ n))
 
 returns : tie.Need-returns Inv-loop μ-loop
 unfolding keyExpansion
-returns c = filled-all [] 11 _ _ _ (c .before .loop .inv .4) (omega arith)
+returns c = filled-all [] 11 _ _ _ (c .before .loop .inv .3) (omega arith) ∙ ap keyExpansion (c .before .before .columns .ensures)
 
 pub expand-spec : {M : Type 1} → statement M
 expand-spec =
@@ -62,8 +70,10 @@ expand-spec =
     Inv-loop
     μ-loop
     forward-requires
+    columns-requires
     loop-holds
     next-key-requires
+    bytes-of-requires
     double-requires
     add-w
     mul-w
