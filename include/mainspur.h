@@ -1,9 +1,16 @@
 /* Mainspur: a software NTAG 424 DNA tag, for C on x86-64 Linux. Link libstand.a (`rt staticlib stand`).
  *
  * A tag's state is an image of mainspur_image_length() bytes that the caller keeps (docs/IMAGE.md). Images may be copied
- * and stored. A slice of bytes goes as a pointer and a length; a slice of length 0 needs a pointer that is not null too.
- * Slices that a call may write must not overlap any other that it is given. No call keeps a pointer, allocates, or uses
- * anything but its arguments. What each call answers and leaves is proved (crates/stand).
+ * and stored. No call keeps a pointer, allocates, or uses anything but its arguments. What each call answers and leaves is
+ * proved (crates/stand), whatever bytes it is given.
+ *
+ * Pointers are trusted: a call can't see whether one is right. A slice of bytes goes as a pointer and a length, and the
+ * caller must keep, of every slice and as long as the call runs:
+ *   - so many bytes, all of them set, can be read behind the pointer, and be written where it is not const (image, room);
+ *   - the pointer is not null, also where the length is 0;
+ *   - a slice that the call may write overlaps no other that it is given: image and room, room and command, ..;
+ *   - no other thread writes any of them, or reads those that the call may write.
+ * Where one of these is broken, nothing that is said below holds.
  *
  * The header includes nothing, so that it compiles without a C library. */
 #ifndef MAINSPUR_H
