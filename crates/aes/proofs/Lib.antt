@@ -1,11 +1,7 @@
-pub mod Chaining
-pub mod Inverse
-pub mod KeyBlocks
+pub mod Answers
 pub mod KeyWords
 pub mod Macs
 pub mod Rounds
 pub mod Schedule
-pub mod Steps
 pub mod Turns
 pub mod Words
-pub mod Worked

@@ -5,6 +5,7 @@ use Prim.Native.Nat.{ℕ, _+_, _*_, _/_, _%_, _<_}
 use native.Mathlib.Omega.{arith}
 use lib.Bits.{xor-comm, xor-mod, xor-shr}
 use Rattle.base.specs.Bytes.{byteAt, AllBytes, tab}
+use Rattle.base.proofs.Bytes.{tab-all}
 use Rattle.sbox.specs.Field.{_⊕_, mul}
 use Rattle.sbox.specs.Columns.{mixed, unmixed}
 use Rattle.sbox.specs.Tables.{sbox}
@@ -14,7 +15,10 @@ use Rattle.sbox.proofs.Rule.{sbox-bytes}
 use Rattle.sbox.proofs.Words.{mixing-at, unmixing-at}
 use Rattle.aes.specs.Block.{IsBlock, xorBlock, substitute, shiftRows, invShiftRows, mixColumns, invMixColumns}
 use Rattle.aes.specs.Words.{rows, blockOf, turn, columnOf, pickedOf}
-use Rattle.aes.proofs.Steps.{block-table}
+
+-- a block is the table of its bytes
+pub block-table : (s : List ℕ) → IsBlock s → tab 16 (byteAt s) ≡ s
+block-table s h = ap (λ n. tab n (byteAt s)) (sym (h .len)) ∙ tab-all s
 
 -- ---- one word
 pub rows-packed : (a b c d : ℕ) → a < 256 → b < 256 → c < 256 → d < 256 → rows (packed a b c d) ≡ a ∷ b ∷ c ∷ d ∷ []

@@ -1,4 +1,5 @@
--- The key expansion a round at a time, as it is computed; proofs/Schedule.antt links it to the standard's words.
+-- (house, how it is computed; no promise of a public function names it) The key expansion a round at a time.
+-- proofs/Schedule.antt links it to the standard's words.
 use mathlib.Core.List.{List, [], _∷_, _++_}
 use Prim.Native.Nat.{ℕ, _+_}
 use Rattle.base.specs.Bytes.{byteAt, tab}

@@ -1,4 +1,5 @@
--- A block as four words, one for each column (FIPS 197, 3.5), as it is computed: the byte of row 0 is a word's lowest.
+-- (house, how it is computed; no promise of a public function names it) A block as four words, one for each column (FIPS 197,
+-- 3.5): the byte of row 0 is a word's lowest. proofs/Words.antt links it to the standard's block.
 use mathlib.Core.List.{List, [], _∷_, _++_}
 use Prim.Native.Nat.{ℕ, _+_, _*_, _/_, _%_}
 use Rattle.base.specs.Bytes.{byteAt}

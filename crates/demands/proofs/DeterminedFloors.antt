@@ -26,22 +26,23 @@ use Rattle.settings.specs.Spans.{readingOf}
 use Rattle.settings.specs.Rules.{meets}
 use Rattle.settings.specs.Answers.{statusWord, judged, normalised, normalRoom, readAs, writtenAs, writtenRoom}
 use Rattle.messaging.specs.declared.Closed.{Closed}
-use Rattle.messaging.specs.declared.Keys.{Keys}
+use Rattle.authentication.specs.declared.Keys.{Keys}
 use Rattle.messaging.specs.declared.Mode.{Mode}
 use Rattle.messaging.specs.declared.Opened.{Opened}
-use Rattle.messaging.specs.declared.Padded.{Padded}
-use Rattle.messaging.specs.declared.PartTwo.{PartTwo}
+use Rattle.padding.specs.declared.Padded.{Padded}
+use Rattle.authentication.specs.declared.PartTwo.{PartTwo}
 use Rattle.messaging.specs.declared.Session.{Session}
-use Rattle.messaging.specs.declared.Tap.{Tap}
-use Rattle.messaging.specs.declared.Unpadded.{Unpadded}
-use Rattle.messaging.specs.Authentication.{enciphered, partTwo, firstReply, nextReply}
+use Rattle.sdm.specs.declared.Tap.{Tap}
+use Rattle.padding.specs.declared.Unpadded.{Unpadded}
+use Rattle.authentication.specs.Authentication.{enciphered, partTwo, firstReply, nextReply}
 use Rattle.messaging.specs.Command.{opening, Opens}
-use Rattle.messaging.specs.Crc.{crc}
-use Rattle.messaging.specs.Keys.{sessionKeys}
-use Rattle.messaging.specs.Padding.{unpad, Pads}
-use Rattle.messaging.specs.Protect.{commandIv, replyIv, mac}
+use Rattle.crc.specs.Crc.{crc}
+use Rattle.authentication.specs.Keys.{sessionKeys}
+use Rattle.padding.specs.Padding.{unpad, Pads}
+use Rattle.messaging.specs.Protect.{commandIv, replyIv}
+use Rattle.aes.specs.Cmac.{mac}
 use Rattle.messaging.specs.Reply.{overlong, Closes}
-use Rattle.messaging.specs.Tap.{piccData, tapKeys, tapIv, Hides}
+use Rattle.sdm.specs.Tap.{piccData, tapKeys, tapIv, Hides}
 use Rattle.lines.specs.declared.Decoded.{Decoded}
 use Rattle.lines.specs.Lines.{seek}
 use Rattle.lines.specs.Hex.{digitOf, charOf, isHex, decoded, decodedRoom, charsRoom}

@@ -6,7 +6,8 @@ ghost use lib.ListN.{length, replicate};
 ghost use Rattle.base.specs.Bytes.{low};
 ghost use Rattle.aes.specs.Block.{cipher};
 ghost use Rattle.aes.specs.Keys.{keyExpansion};
-ghost use Rattle.messaging.specs.Protect.{mac, messageMac, commandIv, replyIv};
+ghost use Rattle.messaging.specs.Protect.{messageMac, commandIv, replyIv};
+ghost use Rattle.aes.specs.Cmac.{mac};
 use crate::Session;
 
 // The eight bytes over a first byte, CmdCtr, TI and a body.
