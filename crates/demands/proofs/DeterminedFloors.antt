@@ -33,6 +33,7 @@ use Rattle.padding.specs.declared.Padded.{Padded}
 use Rattle.authentication.specs.declared.PartTwo.{PartTwo}
 use Rattle.messaging.specs.declared.Session.{Session}
 use Rattle.sdm.specs.declared.Tap.{Tap}
+use Rattle.sdm.specs.declared.TapKeys.{TapKeys}
 use Rattle.padding.specs.declared.Unpadded.{Unpadded}
 use Rattle.authentication.specs.Authentication.{enciphered, partTwo, firstReply, nextReply}
 use Rattle.messaging.specs.Command.{opening, Opens}
@@ -188,7 +189,7 @@ tap-encrypt-determined key counter text = hides-once
 pub tap-iv-determined : (key : List ℕ) (counter : ℕ) → Determined (λ (r : List ℕ). r ≡ tapIv key counter)
 tap-iv-determined key counter = once
 
-pub tap-keys-determined : (key : List ℕ) (t : Tap) → Determined (λ (r : Keys). r ≡ tapKeys key t)
+pub tap-keys-determined : (key : List ℕ) (t : Tap) → Determined (λ (r : TapKeys). r ≡ tapKeys key t)
 tap-keys-determined key t = once
 
 pub tap-mac-determined : (key text : List ℕ) → Determined (λ (r : List ℕ). r ≡ mac key text)
