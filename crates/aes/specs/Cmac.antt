@@ -6,7 +6,7 @@ use lib.ListN.{length, take, drop, replicate}
 use Rattle.base.specs.Decide.{pick}
 use Rattle.base.specs.Bytes.{byteAt, tab}
 use Rattle.aes.specs.Block.{cipher, xorBlock}
-use Rattle.aes.specs.Keys.{keyExpansion}
+use Rattle.key_expansion.specs.Keys.{keyExpansion}
 
 -- a block shifted to the left by one bit: each byte's low seven bits doubled, and the high bit of the byte behind it
 unfoldable pub shifted : List ℕ → List ℕ

@@ -4,7 +4,7 @@ use Prim.Native.Nat.{ℕ, _+_, _-_}
 use lib.Bits.{bitXor}
 use lib.ListN.{take, drop}
 use Rattle.base.specs.Bytes.{byteAt, tab}
-use Rattle.aes.specs.Keys.{keyExpansion}
+use Rattle.key_expansion.specs.Keys.{keyExpansion}
 use Rattle.aes.specs.Cmac.{cmac}
 use Rattle.authentication.specs.declared.Keys.{Keys}
 

@@ -29,7 +29,7 @@ fn vector(l: u8, m: u8, a: [u8; 16], b: [u8; 16]) -> [u8; 32]
 pub fn session_keys(kx: [u8; 16], a: [u8; 16], b: [u8; 16]) -> Keys
     ensures { λ r. ⌜ r ≡ sessionKeys kx a b ⌝ }
 {
-    let w = aes::expand(kx);
+    let w = key_expansion::expand(kx);
     let one = vector(0xA5, 0x5A, a, b);
     let two = vector(0x5A, 0xA5, a, b);
     let enc = aes::cmac_of(&w, &one);

@@ -9,7 +9,7 @@ use crate::Proof;
 fn encipher_one(kx: [u8; 16], x: [u8; 16]) -> [u8; 16]
     ensures { λ r. ⌜ r ≡ enciphered kx x ⌝ }
 {
-    let w = aes::expand(kx);
+    let w = key_expansion::expand(kx);
     let mut b = x;
     aes::cbc_encrypt(&w, [0u8; 16], &mut b);
     b
@@ -19,7 +19,7 @@ fn encipher_one(kx: [u8; 16], x: [u8; 16]) -> [u8; 16]
 fn encipher_two(kx: [u8; 16], x: [u8; 32]) -> [u8; 32]
     ensures { λ r. ⌜ r ≡ enciphered kx x ⌝ }
 {
-    let w = aes::expand(kx);
+    let w = key_expansion::expand(kx);
     let mut b = x;
     aes::cbc_encrypt(&w, [0u8; 16], &mut b);
     b
@@ -47,7 +47,7 @@ fn decipher(kx: [u8; 16], x: &[u8]) -> [u8; 32]
     requires { ⌜ length (now x) ≡ 32 ⌝ }
     ensures { λ r. ⌜ r ≡ deciphered kx (now (x .entry)) ⌝ }
 {
-    let w = aes::expand(kx);
+    let w = key_expansion::expand(kx);
     let mut b = [0u8; 32];
     base::put(x, &mut b, 0);
     aes::cbc_decrypt(&w, [0u8; 16], &mut b);

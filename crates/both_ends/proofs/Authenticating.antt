@@ -10,7 +10,7 @@ use borrow.Author.Tests.{eq-eqb}
 use Rattle.base.specs.Bytes.{AllBytes, same}
 use Rattle.base.proofs.Bytes.{append-bytes, drop-bytes, take-bytes, same-refl}
 use Rattle.aes.specs.Block.{IsBlock}
-use Rattle.aes.specs.Keys.{keyExpansion}
+use Rattle.key_expansion.specs.Keys.{keyExpansion}
 use Rattle.inverse.proofs.KeyBlocks.{keys-are}
 use Rattle.inverse.proofs.Chaining.{cbcOut-length, cbc-back-of-out}
 use Rattle.authentication.specs.Keys.{sessionKeys}

@@ -14,7 +14,7 @@ use Rattle.base.specs.Bytes.{AllBytes, over, same}
 use Rattle.base.proofs.Bytes.{append-bytes, same-refl, le-or-lt}
 use Rattle.aes.specs.Block.{IsBlock}
 use Rattle.aes.specs.Cbc.{cbcOut, cbcBack}
-use Rattle.aes.specs.Keys.{keyExpansion}
+use Rattle.key_expansion.specs.Keys.{keyExpansion}
 use Rattle.inverse.proofs.Inverse.{cipher-block}
 use Rattle.inverse.proofs.KeyBlocks.{keys-are}
 use Rattle.inverse.proofs.Chaining.{cbcOut-length, cbc-back-of-out}

@@ -13,7 +13,7 @@ use Rattle.base.specs.Bytes.{byteAt, AllBytes}
 use Rattle.base.proofs.Bytes.{append-bytes}
 use Rattle.aes.specs.Block.{IsBlock}
 use Rattle.aes.specs.Cbc.{cbcOut}
-use Rattle.aes.specs.Keys.{keyExpansion}
+use Rattle.key_expansion.specs.Keys.{keyExpansion}
 use Rattle.inverse.proofs.Chaining.{cbcOut-length}
 use Rattle.inverse.proofs.Inverse.{cipher-block}
 use Rattle.inverse.proofs.KeyBlocks.{keys-are}

@@ -7,12 +7,13 @@ use lib.Dec.{leb}
 use Rattle.base.specs.Decide.{pick}
 use Rattle.base.specs.Bytes.{byteAt, same, laid}
 use Rattle.sbox.specs.Tables.{sbox, invSbox}
-use Rattle.sbox.specs.Words.{mixingTable, unmixingTable}
+use Rattle.sbox.specs.Words.{packed, mixingTable, unmixingTable}
+use Rattle.words.specs.Words.{blockOf, wordsOf, columnOf, pickedOf}
 use Rattle.aes.specs.declared.Chained.{Chained}
 use Rattle.aes.specs.Block.{cipher, invCipher}
 use Rattle.aes.specs.Cbc.{cbcOut, cbcBack, Chains}
-use Rattle.aes.specs.Cmac.{cmac, evenPlaces}
-use Rattle.aes.specs.Keys.{keyExpansion}
+use Rattle.aes.specs.Cmac.{cmac, evenPlaces, mac}
+use Rattle.key_expansion.specs.Keys.{keyExpansion}
 use Rattle.settings.specs.declared.Head.{Head}
 use Rattle.settings.specs.declared.Normalised.{Normalised}
 use Rattle.settings.specs.declared.Reading.{Reading}
@@ -41,7 +42,6 @@ use Rattle.crc.specs.Crc.{crc}
 use Rattle.authentication.specs.Keys.{sessionKeys}
 use Rattle.padding.specs.Padding.{unpad, Pads}
 use Rattle.messaging.specs.Protect.{commandIv, replyIv}
-use Rattle.aes.specs.Cmac.{mac}
 use Rattle.messaging.specs.Reply.{overlong, Closes}
 use Rattle.sdm.specs.Tap.{piccData, tapKeys, tapIv, Hides}
 use Rattle.lines.specs.declared.Decoded.{Decoded}
@@ -88,10 +88,27 @@ mixing-determined = once
 pub unmixing-determined : Determined (λ (r : List ℕ). r ≡ unmixingTable)
 unmixing-determined = once
 
--- ---- aes
+-- ---- words
+pub pack-determined : (a b c d : ℕ) → Determined (λ (r : ℕ). r ≡ packed a b c d)
+pack-determined a b c d = once
+
+pub columns-determined : (s : List ℕ) → Determined (λ (r : List ℕ). (r ≡ wordsOf s) × (blockOf r ≡ s))
+columns-determined s r q p h = once r q (p .0) (h .0)
+
+pub bytes-of-determined : (s : List ℕ) → Determined (λ (r : List ℕ). r ≡ blockOf s)
+bytes-of-determined s = once
+
+pub column-determined : (t : List ℕ) (a b c d : ℕ) → Determined (λ (r : ℕ). r ≡ columnOf t a b c d)
+column-determined t a b c d = once
+
+pub picked-determined : (v : List ℕ) (a b c d : ℕ) → Determined (λ (r : ℕ). r ≡ pickedOf v a b c d)
+picked-determined v a b c d = once
+
+-- ---- key_expansion
 pub expand-determined : (key : List ℕ) → Determined (λ (r : List (List ℕ)). r ≡ keyExpansion key)
 expand-determined key = once
 
+-- ---- aes
 pub encrypt-determined : (w : List (List ℕ)) (s : List ℕ) → Determined (λ (r : List ℕ). r ≡ cipher w s)
 encrypt-determined w s = once
 
@@ -137,7 +154,7 @@ pub write-determined : (file : ℕ) (r : Settings) (room : List ℕ)
     → DeterminedIn (λ (w : Written) (new : List ℕ). (w ≡ writtenAs (meets file r) r room) × (new ≡ writtenRoom (meets file r) r room))
 write-determined file r room = twice
 
--- ---- messaging
+-- ---- crc, sdm, authentication, padding, messaging
 pub check-part-two-determined : (kx b x : List ℕ) → Determined (λ (r : PartTwo). r ≡ partTwo kx b x)
 check-part-two-determined kx b x = once
 

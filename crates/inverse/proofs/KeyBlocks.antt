@@ -14,8 +14,8 @@ use Rattle.sbox.proofs.Linear.{xor-byte, xtime-byte}
 use Rattle.sbox.proofs.Rule.{sbox-bytes}
 use Rattle.inverse.specs.RoundKeys.{IsKeys}
 use Rattle.aes.specs.Block.{IsBlock}
-use Rattle.aes.specs.Keys.{xorWord, subWord, rotWord, rcon, temp, word, roundWords, keyExpansion}
-use Rattle.aes.proofs.Schedule.{word-length}
+use Rattle.key_expansion.specs.Keys.{xorWord, subWord, rotWord, rcon, temp, word, roundWords, keyExpansion}
+use Rattle.key_expansion.proofs.Schedule.{word-length}
 
 xorWord-bytes : (a b : List ℕ) → AllBytes a → AllBytes b → AllBytes (xorWord a b)
 unfolding xorWord AllBytes

@@ -10,9 +10,9 @@ use Rattle.sbox.specs.Field.{xtime}
 use Rattle.sbox.specs.Columns.{mixed, unmixed}
 use Rattle.sbox.specs.Tables.{sbox}
 use Rattle.aes.specs.Block.{xorBlock, substitute, shiftRows, mixColumns, rounds, cipher}
-use Rattle.aes.specs.Keys.{xorWord, subWord, rotWord, rcon, roundWords, keyExpansion}
-use Rattle.aes.specs.NextKey.{firstWord, nextKey}
-use Rattle.aes.proofs.Schedule.{round-next, round-first}
+use Rattle.key_expansion.specs.Keys.{xorWord, subWord, rotWord, rcon, roundWords, keyExpansion}
+use Rattle.key_expansion.specs.NextKey.{firstWord, nextKey}
+use Rattle.key_expansion.proofs.Schedule.{round-next, round-first}
 
 -- round key r, one round key after the other
 roundBy : List ℕ → ℕ → List ℕ

@@ -11,7 +11,7 @@ use borrow.Author.Tests.{le-leb, le-ltb, lt-ltb, ltb-false}
 use Rattle.base.specs.Bytes.{over}
 use Rattle.base.proofs.Bytes.{Holds, front, le-or-lt}
 use Rattle.aes.specs.Cbc.{Chains, cbcOut}
-use Rattle.aes.specs.Keys.{keyExpansion}
+use Rattle.key_expansion.specs.Keys.{keyExpansion}
 use Rattle.aes.specs.declared.Chained.{Chained}
 use Rattle.padding.specs.Padding.{padded, paddedLength, paddedIn, Pads}
 use Rattle.messaging.specs.Protect.{messageMac, sent, signed, replyIv}

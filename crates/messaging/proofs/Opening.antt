@@ -12,7 +12,7 @@ use Rattle.base.specs.Decide.{or}
 use Rattle.base.specs.Bytes.{same}
 use Rattle.base.proofs.Bytes.{and-left, and-right}
 use Rattle.aes.specs.Cbc.{cbcBack}
-use Rattle.aes.specs.Keys.{keyExpansion}
+use Rattle.key_expansion.specs.Keys.{keyExpansion}
 use Rattle.padding.specs.Padding.{blocks, unpad}
 use Rattle.messaging.specs.Protect.{commandIv, macLength, messageMac, Opening, plain, wrongLength, wrongMac, textOf, content, macRight}
 use Rattle.messaging.specs.Command.{partRight, lengthRight, checked, opening, answers, leaves, OpensInto, Opens}

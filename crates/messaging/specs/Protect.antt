@@ -8,7 +8,7 @@ use Rattle.base.specs.Bytes.{low, same}
 use Rattle.aes.specs.Block.{cipher}
 use Rattle.aes.specs.Cbc.{cbcOut, cbcBack}
 use Rattle.aes.specs.Cmac.{mac}
-use Rattle.aes.specs.Keys.{keyExpansion}
+use Rattle.key_expansion.specs.Keys.{keyExpansion}
 use Rattle.padding.specs.Padding.{padded, unpad}
 use Rattle.messaging.specs.declared.Session.{Session}
 use Rattle.messaging.specs.declared.Mode.{Mode}

@@ -90,7 +90,7 @@ fn give_opened(s: Session, part: &mut [u8], room: &mut [u8]) -> Opened
     ensures { λ r. ⌜ OpensInto (content Full s (commandIv s) true (now (part .entry))) (now (room .entry)) r (now (room .exit)) ⌝ }
 {
     let key = s.enc;
-    let w = aes::expand(key);
+    let w = key_expansion::expand(key);
     let iv = command_vector(&w, s);
     aes::cbc_decrypt(&w, iv, part);
     give_text(part, room)

@@ -51,7 +51,7 @@ fn hide(s: Session, room: &mut [u8], n: usize) -> usize
     padding::pad(room, n);
     let e = n / 16 * 16 + 16;
     let key = s.enc;
-    let w = aes::expand(key);
+    let w = key_expansion::expand(key);
     let iv = reply_vector(&w, s);
     aes::cbc_encrypt(&w, iv, &mut room[..e]);
     e

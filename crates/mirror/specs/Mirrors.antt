@@ -7,7 +7,7 @@ use Rattle.base.specs.Decide.{pick, and}
 use Rattle.base.specs.Bytes.{laid}
 use Rattle.lines.specs.Hex.{charsOf}
 use Rattle.aes.specs.Cbc.{cbcOut}
-use Rattle.aes.specs.Keys.{keyExpansion}
+use Rattle.key_expansion.specs.Keys.{keyExpansion}
 use Rattle.aes.specs.Cmac.{mac}
 use Rattle.sdm.specs.Tap.{piccData, tapKeys, tapIv}
 use Rattle.settings.specs.Spans.{inside}

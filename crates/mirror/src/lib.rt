@@ -5,7 +5,7 @@ ghost use Prim.Native.Nat.{_%_, _≤_};
 ghost use lib.ListN.{length};
 ghost use Rattle.base.specs.Decide.{and, or};
 ghost use Rattle.aes.specs.Cbc.{cbcOut};
-ghost use Rattle.aes.specs.Keys.{keyExpansion};
+ghost use Rattle.key_expansion.specs.Keys.{keyExpansion};
 ghost use Rattle.aes.specs.Cmac.{mac};
 ghost use Rattle.sdm.specs.Tap.{tapIv};
 ghost use Rattle.settings.specs.Spans.{endOf, inside};

@@ -9,7 +9,7 @@ use Rattle.base.specs.Bytes.{low}
 use Rattle.aes.specs.Block.{cipher}
 use Rattle.aes.specs.Cbc.{cbcOut, whole}
 use Rattle.aes.specs.Cmac.{cmac}
-use Rattle.aes.specs.Keys.{keyExpansion}
+use Rattle.key_expansion.specs.Keys.{keyExpansion}
 use Rattle.sdm.specs.declared.Tap.{Tap}
 use Rattle.sdm.specs.declared.TapKeys.{TapKeys}
 

@@ -91,7 +91,7 @@ pub fn picc_data(key: [u8; 16], t: Tap, random: [u8; 20]) -> [u8; 16]
     let b = m.bytes;
     let tag = picc_tag(t.names, t.counts);
     let text = picc_text(tag, b, m.count, random);
-    let w = aes::expand(key);
+    let w = key_expansion::expand(key);
     aes::encrypt(&w, text)
 }
 
@@ -109,7 +109,7 @@ fn vector(l: u8, m: u8, b: [u8; 10]) -> [u8; 16]
 pub fn tap_keys(key: [u8; 16], t: Tap) -> TapKeys
     ensures { λ r. ⌜ r ≡ tapKeys key t ⌝ }
 {
-    let w = aes::expand(key);
+    let w = key_expansion::expand(key);
     let uid = t.uid;
     let m = mirror_of(uid, t.counter, t.names, t.counts);
     let b = m.bytes;
@@ -133,7 +133,7 @@ fn tap_vector(w: &[[u8; 16]; 11], counter: u32) -> [u8; 16]
 pub fn tap_iv(key: [u8; 16], counter: u32) -> [u8; 16]
     ensures { λ r. ⌜ r ≡ tapIv key counter ⌝ }
 {
-    let w = aes::expand(key);
+    let w = key_expansion::expand(key);
     tap_vector(&w, counter)
 }
 
@@ -141,7 +141,7 @@ pub fn tap_iv(key: [u8; 16], counter: u32) -> [u8; 16]
 pub fn tap_encrypt(key: [u8; 16], counter: u32, text: &mut [u8]) -> bool
     ensures { λ r. ⌜ Hides key counter (now (text .entry)) r (now (text .exit)) ⌝ }
 {
-    let w = aes::expand(key);
+    let w = key_expansion::expand(key);
     let iv = tap_vector(&w, counter);
     let whole = text.len() % 16 == 0;
     aes::cbc_encrypt(&w, iv, text);
@@ -152,6 +152,6 @@ pub fn tap_encrypt(key: [u8; 16], counter: u32, text: &mut [u8]) -> bool
 pub fn tap_mac(key: [u8; 16], text: &[u8]) -> [u8; 8]
     ensures { λ r. ⌜ r ≡ mac key (now (text .entry)) ⌝ }
 {
-    let w = aes::expand(key);
+    let w = key_expansion::expand(key);
     aes::mac_of(&w, text)
 }

@@ -3,7 +3,7 @@ use native.Mathlib.Omega.{arith}
 use Prim.Native.Nat.{_+_, _*_, _/_}
 use lib.ListN.{length}
 use Rattle.aes.specs.Cbc.{cbcOut}
-use Rattle.aes.specs.Keys.{keyExpansion}
+use Rattle.key_expansion.specs.Keys.{keyExpansion}
 use Rattle.sdm.specs.Tap.{tapIv}
 use Rattle.mirror.specs.Mirrors.{mirrorAt, stretch, encData}
 use Rattle.mirror.proofs.Laying.{enc-blocks, mirror-by}
