@@ -93,7 +93,7 @@ fn last_part(t: Tally) -> Tally {
     let k = [0u8; 16];
     let reply = authentication::first_reply(k, values::TI, values::RND_A, [0u8; 6]);
     let t1 = compare(t, b"reply of part two", &reply, &values::PART_TWO_REPLY);
-    let keys = authentication::session_keys(k, values::RND_A, values::RND_B);
+    let keys = session_keys::session_keys(k, values::RND_A, values::RND_B);
     let enc = keys.enc;
     let mac = keys.mac;
     let t2 = compare_block(t1, b"SesAuthENCKey", enc, values::ENC_KEY);

@@ -9,7 +9,7 @@ use Rattle.base.specs.Bytes.{byteAt}
 use Rattle.authentication.specs.declared.Proof.{Proof}
 use Rattle.authentication.specs.declared.Proof.the-variants.{Right, NotThirtyTwo, WrongRndB}
 use Rattle.authentication.specs.Authentication.{enciphered, deciphered, proofOf, proofStatus, firstReply, nextReply}
-use Rattle.authentication.specs.Keys.{encKey, macKey}
+use Rattle.session_keys.specs.Keys.{encKey, macKey}
 use Rattle.state.specs.declared.Live.{Live}
 use Rattle.state.specs.declared.Pending.{Pending}
 use Rattle.state.specs.declared.Tag.{Tag}

@@ -177,7 +177,7 @@ fn session(p: Pending, kx: [u8; 16], a: [u8; 16], ti: [u8; 4]) -> Live
     ensures { λ r. ⌜ r ≡ sessionFrom p kx a ti ⌝ }
 {
     let b = p.rnd_b;
-    let k = authentication::session_keys(kx, a, b);
+    let k = session_keys::session_keys(kx, a, b);
     let enc = k.enc;
     let mac = k.mac;
     Live {

@@ -1,2 +1,1 @@
 pub mod Authentication
-pub mod Keys

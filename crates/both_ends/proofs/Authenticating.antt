@@ -13,7 +13,7 @@ use Rattle.aes.specs.Block.{IsBlock}
 use Rattle.key_expansion.specs.Keys.{keyExpansion}
 use Rattle.inverse.proofs.KeyBlocks.{keys-are}
 use Rattle.inverse.proofs.Chaining.{cbcOut-length, cbc-back-of-out}
-use Rattle.authentication.specs.Keys.{sessionKeys}
+use Rattle.session_keys.specs.Keys.{sessionKeys}
 use Rattle.authentication.specs.Authentication.{zeros, enciphered, deciphered, turned, challenge, proofOf, partTwo, firstReply, nextReply}
 use Rattle.authentication.specs.declared.Proof.the-variants.{Right}
 

@@ -27,7 +27,7 @@ use Rattle.settings.specs.Spans.{readingOf}
 use Rattle.settings.specs.Rules.{meets}
 use Rattle.settings.specs.Answers.{statusWord, judged, normalised, normalRoom, readAs, writtenAs, writtenRoom}
 use Rattle.messaging.specs.declared.Closed.{Closed}
-use Rattle.authentication.specs.declared.Keys.{Keys}
+use Rattle.session_keys.specs.declared.Keys.{Keys}
 use Rattle.messaging.specs.declared.Mode.{Mode}
 use Rattle.messaging.specs.declared.Opened.{Opened}
 use Rattle.padding.specs.declared.Padded.{Padded}
@@ -39,7 +39,7 @@ use Rattle.padding.specs.declared.Unpadded.{Unpadded}
 use Rattle.authentication.specs.Authentication.{enciphered, partTwo, firstReply, nextReply}
 use Rattle.messaging.specs.Command.{opening, Opens}
 use Rattle.crc.specs.Crc.{crc}
-use Rattle.authentication.specs.Keys.{sessionKeys}
+use Rattle.session_keys.specs.Keys.{sessionKeys}
 use Rattle.padding.specs.Padding.{unpad, Pads}
 use Rattle.messaging.specs.Protect.{commandIv, replyIv}
 use Rattle.messaging.specs.Reply.{overlong, Closes}

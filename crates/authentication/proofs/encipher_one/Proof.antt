@@ -1,12 +1,12 @@
--- `authentication::parts::encipher_one` meets its contract: a block is whole.
+-- `authentication::encipher_one` meets its contract: a block is whole.
 use Rattle.aes.proofs.Turns.{chains-whole}
 use Rattle.aes.specs.Cbc.{cbcOut}
 use Rattle.authentication.specs.Authentication.{enciphered}
 use lib.ListN.{length}
 use mathlib.Core.Path.{_≡_, refl, ap, _∙_}
 use borrow.Author.Needs.{needs}
-use Rattle.authentication.proofs.parts.encipher_one.Statement.{statement}
-use Rattle.authentication.proofs.parts.encipher_one.Tie as tie
+use Rattle.authentication.proofs.encipher_one.Statement.{statement}
+use Rattle.authentication.proofs.encipher_one.Tie as tie
 
 expand-requires : tie.Need-expand-requires
 expand-requires c κs = search needs

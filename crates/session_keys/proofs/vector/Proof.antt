@@ -1,6 +1,6 @@
--- `authentication::derivation::vector` meets its contract: five pieces fill the buffer.
+-- `session_keys::vector` meets its contract: five pieces fill the buffer.
 use Rattle.base.specs.Bytes.{laid}
-use Rattle.authentication.specs.Keys.{context, sum, bytesDown}
+use Rattle.session_keys.specs.Keys.{context, sum, bytesDown}
 use Rattle.base.proofs.Pieces.{also, full, tab-of}
 use Rattle.base.proofs.Bytes.{none}
 use native.Mathlib.Omega.{arith}
@@ -8,8 +8,8 @@ use lib.ListN.{length, take, drop, length-take, length-drop}
 use mathlib.Core.Path.{_≡_, ap, ap₂, _∙_}
 use mathlib.Core.List.{[], _∷_}
 use borrow.Author.Needs.{needs}
-use Rattle.authentication.proofs.derivation.vector.Statement.{statement}
-use Rattle.authentication.proofs.derivation.vector.Tie as tie
+use Rattle.session_keys.proofs.vector.Statement.{statement}
+use Rattle.session_keys.proofs.vector.Tie as tie
 
 array-read-t11 : tie.Need-array-read-t11
 array-read-t11 c = search needs

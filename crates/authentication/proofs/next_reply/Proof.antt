@@ -1,9 +1,9 @@
--- `authentication::parts::next_reply` meets its contract: as the definition has it.
+-- `authentication::next_reply` meets its contract: as the definition has it.
 use Rattle.authentication.specs.Authentication.{nextReply, enciphered}
 use mathlib.Core.Path.{ap, _∙_}
 use borrow.Author.Needs.{needs}
-use Rattle.authentication.proofs.parts.next_reply.Statement.{statement}
-use Rattle.authentication.proofs.parts.next_reply.Tie as tie
+use Rattle.authentication.proofs.next_reply.Statement.{statement}
+use Rattle.authentication.proofs.next_reply.Tie as tie
 
 turn-requires : tie.Need-turn-requires
 turn-requires c κs = search needs

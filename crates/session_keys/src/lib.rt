@@ -1,8 +1,13 @@
 // The session keys (9.1.7).
 ghost use mathlib.Core.Path.{_≡_};
 ghost use mathlib.Core.List.{_∷_};
-ghost use Rattle.authentication.specs.Keys.{context, sessionKeys};
-use crate::Keys;
+ghost use Rattle.session_keys.specs.Keys.{context, sessionKeys};
+
+// The keys of a session.
+pub struct Keys {
+    pub enc: [u8; 16],
+    pub mac: [u8; 16],
+}
 
 // The input of a key: a label, and the context of both random numbers.
 fn vector(l: u8, m: u8, a: [u8; 16], b: [u8; 16]) -> [u8; 32]

@@ -1,4 +1,4 @@
--- `authentication::parts::first_reply` meets its contract: four pieces fill the buffer.
+-- `authentication::first_reply` meets its contract: four pieces fill the buffer.
 use mathlib.Core.List.{_++_}
 use Rattle.authentication.specs.Authentication.{firstReply, enciphered, zeros}
 use Rattle.base.proofs.Pieces.{also, full}
@@ -8,8 +8,8 @@ use lib.ListN.{length}
 use Prim.Native.Nat.{_+_}
 use mathlib.Core.Path.{_≡_, ap, _∙_}
 use borrow.Author.Needs.{needs}
-use Rattle.authentication.proofs.parts.first_reply.Statement.{statement}
-use Rattle.authentication.proofs.parts.first_reply.Tie as tie
+use Rattle.authentication.proofs.first_reply.Statement.{statement}
+use Rattle.authentication.proofs.first_reply.Tie as tie
 
 turn-requires : tie.Need-turn-requires
 turn-requires c κs = search needs

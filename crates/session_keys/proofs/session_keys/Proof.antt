@@ -1,8 +1,8 @@
--- `authentication::derivation::session_keys` meets its contract: both keys.
-use Rattle.authentication.specs.Keys.{encKey, macKey, sessionKeys}
+-- `session_keys::session_keys` meets its contract: both keys.
+use Rattle.session_keys.specs.Keys.{encKey, macKey, sessionKeys}
 use borrow.Author.Needs.{needs}
-use Rattle.authentication.proofs.derivation.session_keys.Statement.{statement}
-use Rattle.authentication.proofs.derivation.session_keys.Tie as tie
+use Rattle.session_keys.proofs.session_keys.Statement.{statement}
+use Rattle.session_keys.proofs.session_keys.Tie as tie
 
 expand-requires : tie.Need-expand-requires
 expand-requires c κs = search needs

@@ -1,12 +1,12 @@
--- `authentication::parts::encipher_two` meets its contract: two blocks are whole.
+-- `authentication::encipher_two` meets its contract: two blocks are whole.
 use Rattle.authentication.specs.Authentication.{enciphered}
 use Rattle.aes.proofs.Turns.{chains-whole}
 use Rattle.aes.specs.Cbc.{cbcOut}
 use lib.ListN.{length}
 use mathlib.Core.Path.{_≡_, refl, ap, _∙_}
 use borrow.Author.Needs.{needs}
-use Rattle.authentication.proofs.parts.encipher_two.Statement.{statement}
-use Rattle.authentication.proofs.parts.encipher_two.Tie as tie
+use Rattle.authentication.proofs.encipher_two.Statement.{statement}
+use Rattle.authentication.proofs.encipher_two.Tie as tie
 
 expand-requires : tie.Need-expand-requires
 expand-requires c κs = search needs

@@ -1,4 +1,4 @@
--- `authentication::parts::check_part_two` meets its contract: the check of part two, case by case.
+-- `authentication::check_part_two` meets its contract: the check of part two, case by case.
 use Rattle.authentication.proofs.PartTwos.{part-right, part-wrong}
 use Rattle.base.proofs.Bytes.{laid-whole}
 use Rattle.authentication.specs.Authentication.{partTwo, proofOf, zeros}
@@ -7,8 +7,8 @@ use native.Mathlib.Omega.{arith}
 use lib.ListN.{length, length-take, take}
 use mathlib.Core.Path.{_≡_, refl, _∙_, sym}
 use borrow.Author.Needs.{needs}
-use Rattle.authentication.proofs.parts.check_part_two.Statement.{statement}
-use Rattle.authentication.proofs.parts.check_part_two.Tie as tie
+use Rattle.authentication.proofs.check_part_two.Statement.{statement}
+use Rattle.authentication.proofs.check_part_two.Tie as tie
 
 returns : tie.Need-returns
 unfolding partTwo proofOf

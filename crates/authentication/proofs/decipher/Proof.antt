@@ -1,4 +1,4 @@
--- `authentication::parts::decipher` meets its contract: 32 bytes laid over 32, then decrypted.
+-- `authentication::decipher` meets its contract: 32 bytes laid over 32, then decrypted.
 use Rattle.authentication.specs.Authentication.{deciphered, zeros}
 use Rattle.aes.proofs.Turns.{chains-whole}
 use Rattle.base.proofs.Bytes.{laid-whole}
@@ -6,8 +6,8 @@ use Rattle.aes.specs.Cbc.{cbcBack}
 use lib.ListN.{length}
 use mathlib.Core.Path.{_≡_, refl, ap, ap₂, _∙_}
 use borrow.Author.Needs.{needs}
-use Rattle.authentication.proofs.parts.decipher.Statement.{statement}
-use Rattle.authentication.proofs.parts.decipher.Tie as tie
+use Rattle.authentication.proofs.decipher.Statement.{statement}
+use Rattle.authentication.proofs.decipher.Tie as tie
 
 expand-requires : tie.Need-expand-requires
 expand-requires c κs = search needs

@@ -1,4 +1,4 @@
--- `authentication::parts::turn` meets its contract: two pieces fill the buffer.
+-- `authentication::turn` meets its contract: two pieces fill the buffer.
 use lib.Seq.{take-all}
 use Rattle.authentication.specs.Authentication.{turned}
 use Rattle.base.proofs.Pieces.{also, full}
@@ -7,8 +7,8 @@ use native.Mathlib.Omega.{arith}
 use lib.ListN.{length, take, drop, length-take, length-drop}
 use mathlib.Core.Path.{_≡_, refl, _∙_}
 use borrow.Author.Needs.{needs}
-use Rattle.authentication.proofs.parts.turn.Statement.{statement}
-use Rattle.authentication.proofs.parts.turn.Tie as tie
+use Rattle.authentication.proofs.turn.Statement.{statement}
+use Rattle.authentication.proofs.turn.Tie as tie
 
 sub-put : tie.Need-sub-put
 sub-put c = search needs
