@@ -154,7 +154,7 @@ pub write-determined : (file : ℕ) (r : Settings) (room : List ℕ)
     → DeterminedIn (λ (w : Written) (new : List ℕ). (w ≡ writtenAs (meets file r) r room) × (new ≡ writtenRoom (meets file r) r room))
 write-determined file r room = twice
 
--- ---- crc, sdm, authentication, padding, messaging
+-- ---- crc, sdm, authentication, session_keys, padding, messaging
 pub check-part-two-determined : (kx b x : List ℕ) → Determined (λ (r : PartTwo). r ≡ partTwo kx b x)
 check-part-two-determined kx b x = once
 
