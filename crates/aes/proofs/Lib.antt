@@ -1,11 +1,5 @@
-pub mod Chaining
-pub mod Inverse
-pub mod KeyBlocks
-pub mod KeyWords
+pub mod Answers
 pub mod Macs
 pub mod Rounds
-pub mod Schedule
-pub mod Steps
 pub mod Turns
 pub mod Words
-pub mod Worked

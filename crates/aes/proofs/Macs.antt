@@ -6,11 +6,10 @@ use native.Mathlib.Omega.{arith}
 use borrow.Author.Tests.{ne-eqb}
 use lib.ListN.{length, take, drop, set, replicate, length-drop}
 use lib.Seq.{set-at}
-use Rattle.base.specs.Bytes.{byteAt, AllBytes, laid}
-use Rattle.base.proofs.Bytes.{laid-front, drop-replicate, tab-bytes}
-use Rattle.aes.specs.Block.{IsBlock, cipher, xorBlock}
-use Rattle.aes.specs.Cmac.{blocksOf, lastBlock, chained, cmac, evenPlaces}
-use Rattle.aes.proofs.Inverse.{IsKeys, cipher-block}
+use Rattle.base.specs.Bytes.{laid}
+use Rattle.base.proofs.Bytes.{laid-front, drop-replicate}
+use Rattle.aes.specs.Block.{cipher, xorBlock}
+use Rattle.aes.specs.Cmac.{blocksOf, lastBlock, chained, cmac}
 
 -- fewer than 16 bytes laid over zeros, and 80 behind them
 pub padded-laid : (s : List ℕ) → length s < 16 → set (laid s 0 (replicate 16 0)) (length s) 128 ≡ s ++ 128 ∷ replicate (15 - length s) 0
@@ -48,21 +47,3 @@ from-last w v s h = ap (λ n. chained w n v s) (blocks-last (length s) h)
 pub from-start : (w : List (List ℕ)) (s : List ℕ) → cmac w s ≡ from w (replicate 16 0) s
 unfolding from cmac
 from-start w s = refl
-
--- ---- a CMAC is a block, and the places kept of it are 8 bytes
-chained-block : (w : List (List ℕ)) → IsKeys w → (n : ℕ) (v s : List ℕ) → IsBlock (chained w n v s)
-unfolding chained
-chained-block w k zero v s = cipher-block w k (xorBlock (lastBlock w s) v)
-chained-block w k (suc n) v s = chained-block w k n (cipher w (xorBlock (take 16 s) v)) (drop 16 s)
-
-pub cmac-block : (w : List (List ℕ)) → IsKeys w → (s : List ℕ) → IsBlock (cmac w s)
-unfolding cmac
-cmac-block w k s = chained-block w k (blocksOf (length s) - 1) (replicate 16 0) s
-
-pub mac-length : (t : List ℕ) → length (evenPlaces t) ≡ 8
-unfolding evenPlaces
-mac-length t = refl
-
-pub mac-bytes : (t : List ℕ) → AllBytes t → AllBytes (evenPlaces t)
-unfolding evenPlaces AllBytes
-mac-bytes t h = tab-bytes 8 (λ i. byteAt t (i * 2 + 1)) (λ i. h (i * 2 + 1))

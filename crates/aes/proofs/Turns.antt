@@ -5,12 +5,13 @@ use Prim.Native.Nat.{ℕ, zero, suc, _+_, _-_, _*_, _/_, _%_, _≤_, _<_}
 use native.Mathlib.Nat.{le-refl}
 use native.Mathlib.Numerals.{sub-one}
 use native.Mathlib.Omega.{arith}
-use borrow.Author.Tests.{le-leb}
+use borrow.Author.Tests.{eq-eqb, le-leb}
 use lib.ListN.{length, take, drop, length-take, length-drop}
 use lib.Seq.{take-all, drop-drop, take-paste, drop-paste}
 use Rattle.base.specs.Bytes.{laid}
 use Rattle.base.proofs.Bytes.{laid-fits, laid-length}
-use Rattle.aes.specs.Cbc.{across, blockAt}
+use Rattle.aes.specs.Cbc.{across, blockAt, Chains}
+use Rattle.aes.specs.declared.Chained.{Chained}
 
 -- a block inside the slice
 pub block-inside : (s : List ℕ) (at : ℕ) → at + 16 ≤ length s → blockAt s at ≡ take 16 (drop at s)
@@ -61,3 +62,7 @@ module _ (f g : List ℕ → List ℕ → List ℕ) (n₀ : ℕ) (v₀ old : Lis
   unfolding across
   still-end buf v at zero h p = sym (append-nil (take at buf) ∙ take-all at buf (omega (arith, h .ends))) ∙ h .rest
   still-end buf v at (suc n) h p = absurd (omega arith)
+
+-- whole blocks are chained
+pub chains-whole : {f : List ℕ → List ℕ} {old new : List ℕ} {r : Chained} → Chains f old r new → length old % 16 ≡ 0 → new ≡ f old
+chains-whole {old = old} h e = simp (eq-eqb (length old % 16) 0 e) at (h .left)

@@ -43,3 +43,8 @@ whole s = eqb (length s % 16) 0
 pub record Chains (f : List ℕ → List ℕ) (old : List ℕ) (r : Chained) (new : List ℕ) : Type 0 where
   pub told : r ≡ pick (whole old) Done Ragged
   pub left : new ≡ pick (whole old) (f old) old
+
+-- (house) the number of each answer; 01 has none (proofs/Answers.antt: chains-number)
+unfoldable pub chainedNumber : Chained → ℕ
+chainedNumber Done = 0
+chainedNumber Ragged = 1

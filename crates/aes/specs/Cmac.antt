@@ -6,6 +6,7 @@ use lib.ListN.{length, take, drop, replicate}
 use Rattle.base.specs.Decide.{pick}
 use Rattle.base.specs.Bytes.{byteAt, tab}
 use Rattle.aes.specs.Block.{cipher, xorBlock}
+use Rattle.key_expansion.specs.Keys.{keyExpansion}
 
 -- a block shifted to the left by one bit: each byte's low seven bits doubled, and the high bit of the byte behind it
 unfoldable pub shifted : List ℕ → List ℕ
@@ -45,3 +46,7 @@ cmac w s = chained w (blocksOf (length s) - 1) (replicate 16 0) s
 -- 01: the second, fourth and every further even place of the CMAC, counted from the first as one
 unfoldable pub evenPlaces : List ℕ → List ℕ
 evenPlaces t = tab 8 (λ i. byteAt t (i * 2 + 1))
+
+-- 9.1.3: the MAC of a text under a key: the CMAC cut to its even places
+unfoldable pub mac : List ℕ → List ℕ → List ℕ
+mac key text = evenPlaces (cmac (keyExpansion key) text)

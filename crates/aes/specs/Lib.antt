@@ -1,6 +1,3 @@
 pub mod Block
 pub mod Cbc
 pub mod Cmac
-pub mod Keys
-pub mod NextKey
-pub mod Words

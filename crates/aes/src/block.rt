@@ -1,13 +1,11 @@
-// The block, both ways (FIPS 197, sections 5.1 and 5.3), as four words, one for each column. The tables are loaded once at
-// an entry and lent on.
+// The block, both ways (FIPS 197, sections 5.1 and 5.3), over `words`. The tables are loaded once at an entry and lent on.
 ghost use mathlib.Core.Path.{_≡_};
-ghost use Prim.Native.Nat.{_%_, _<_};
+ghost use Prim.Native.Nat.{_%_};
 ghost use Rattle.base.specs.Bytes.{byteAt};
-ghost use Rattle.sbox.specs.Field.{xtime};
 ghost use Rattle.sbox.specs.Tables.{sbox, invSbox};
-ghost use Rattle.sbox.specs.Words.{packed, mixingTable, unmixingTable};
+ghost use Rattle.sbox.specs.Words.{mixingTable, unmixingTable};
 ghost use Rattle.aes.specs.Block.{xorBlock, substitute, shiftRows, invShiftRows, mixColumns, invMixColumns, addRoundKey, cipher, invCipher};
-ghost use Rattle.aes.specs.Words.{rows, blockOf, turn, columnOf, pickedOf};
+ghost use Rattle.words.specs.Words.{blockOf, pickedOf};
 
 // Two blocks summed (5.1.4).
 pub fn xor_block(a: [u8; 16], b: [u8; 16]) -> [u8; 16]
@@ -22,106 +20,12 @@ pub fn xor_block(a: [u8; 16], b: [u8; 16]) -> [u8; 16]
     r
 }
 
-// A byte times x (4.2.1).
-pub fn double(x: u8) -> u8
-    ensures { λ r. ⌜ r ≡ xtime x ⌝ }
-{
-    (x % 128 * 2) ^ (x / 128 % 2 * 27)
-}
-
-// A byte as a wider number.
-fn wide(x: u8) -> u32
-    ensures { λ r. ⌜ (r ≡ x) × (r < 256) ⌝ }
-{
-    x as u32
-}
-
-// The word of four bytes.
-pub fn pack(a: u8, b: u8, c: u8, d: u8) -> u32
-    ensures { λ r. ⌜ r ≡ packed a b c d ⌝ }
-{
-    let w = wide(a);
-    let x = wide(b);
-    let y = wide(c);
-    let z = wide(d);
-    w + 256 * x + 65536 * y + 16777216 * z
-}
-
-// The four bytes of a word.
-fn unpack(x: u32) -> [u8; 4]
-    ensures { λ r. ⌜ r ≡ rows x ⌝ }
-{
-    [
-        (x % 256) as u8,
-        (x / 256 % 256) as u8,
-        (x / 65536 % 256) as u8,
-        (x / 16777216 % 256) as u8,
-    ]
-}
-
-// The four words of a block.
-pub fn columns(s: [u8; 16]) -> [u32; 4]
-    ensures { λ r. ⌜ blockOf r ≡ s ⌝ }
-{
-    let a = pack(s[0], s[1], s[2], s[3]);
-    let b = pack(s[4], s[5], s[6], s[7]);
-    let c = pack(s[8], s[9], s[10], s[11]);
-    let d = pack(s[12], s[13], s[14], s[15]);
-    [a, b, c, d]
-}
-
-// The block of four words.
-pub fn bytes_of(s: [u32; 4]) -> [u8; 16]
-    ensures { λ r. ⌜ r ≡ blockOf s ⌝ }
-{
-    let a = unpack(s[0]);
-    let b = unpack(s[1]);
-    let c = unpack(s[2]);
-    let d = unpack(s[3]);
-    [
-        a[0],
-        a[1],
-        a[2],
-        a[3],
-        b[0],
-        b[1],
-        b[2],
-        b[3],
-        c[0],
-        c[1],
-        c[2],
-        c[3],
-        d[0],
-        d[1],
-        d[2],
-        d[3],
-    ]
-}
-
 // AddRoundKey (5.1.4).
 fn with_key(s: [u32; 4], k: [u8; 16]) -> [u32; 4]
     ensures { λ r. ⌜ blockOf r ≡ addRoundKey (blockOf s) k ⌝ }
 {
-    let w = columns(k);
+    let w = words::columns(k);
     [s[0] ^ w[0], s[1] ^ w[1], s[2] ^ w[2], s[3] ^ w[3]]
-}
-
-// A word turned down by one row.
-fn turned(x: u32) -> u32
-    ensures { λ r. ⌜ r ≡ turn x ⌝ }
-{
-    x % 16777216 * 256 + x / 16777216
-}
-
-// A table's words for row 0 of a, row 1 of b, row 2 of c and row 3 of d, summed.
-fn column(t: &[u32; 256], a: u32, b: u32, c: u32, d: u32) -> u32
-    ensures { λ r. ⌜ r ≡ columnOf (now (t .entry)) a b c d ⌝ }
-{
-    let w = t[a as usize % 256];
-    let x = t[(b / 256) as usize % 256];
-    let y = t[(c / 65536) as usize % 256];
-    let z = t[(d / 16777216) as usize % 256];
-    w ^ turned(x) ^ turned(turned(y)) ^ turned(turned(turned(z)))
 }
 
 // SubBytes, ShiftRows and MixColumns at once (5.1.1 to 5.1.3).
@@ -129,10 +33,10 @@ fn mix_columns(t: &[u32; 256], s: [u32; 4]) -> [u32; 4]
     requires { ⌜ now t ≡ mixingTable ⌝ }
     ensures { λ r. ⌜ blockOf r ≡ mixColumns (shiftRows (substitute sbox (blockOf s))) ⌝ }
 {
-    let a = column(t, s[0], s[1], s[2], s[3]);
-    let b = column(t, s[1], s[2], s[3], s[0]);
-    let c = column(t, s[2], s[3], s[0], s[1]);
-    let d = column(t, s[3], s[0], s[1], s[2]);
+    let a = words::column(t, s[0], s[1], s[2], s[3]);
+    let b = words::column(t, s[1], s[2], s[3], s[0]);
+    let c = words::column(t, s[2], s[3], s[0], s[1]);
+    let d = words::column(t, s[3], s[0], s[1], s[2]);
     [a, b, c, d]
 }
 
@@ -141,10 +45,10 @@ fn unmix_columns(u: &[u32; 256], s: [u32; 4]) -> [u32; 4]
     requires { ⌜ now u ≡ unmixingTable ⌝ }
     ensures { λ r. ⌜ blockOf r ≡ invMixColumns (blockOf s) ⌝ }
 {
-    let a = column(u, s[0], s[0], s[0], s[0]);
-    let b = column(u, s[1], s[1], s[1], s[1]);
-    let c = column(u, s[2], s[2], s[2], s[2]);
-    let d = column(u, s[3], s[3], s[3], s[3]);
+    let a = words::column(u, s[0], s[0], s[0], s[0]);
+    let b = words::column(u, s[1], s[1], s[1], s[1]);
+    let c = words::column(u, s[2], s[2], s[2], s[2]);
+    let d = words::column(u, s[3], s[3], s[3], s[3]);
     [a, b, c, d]
 }
 
@@ -165,7 +69,7 @@ fn sub_column(t: &[u32; 256], a: u32, b: u32, c: u32, d: u32) -> u32
     let x = sub(t, b / 256);
     let y = sub(t, c / 65536);
     let z = sub(t, d / 16777216);
-    pack(w, x, y, z)
+    words::pack(w, x, y, z)
 }
 
 // SubBytes, then ShiftRows (5.1.1, 5.1.2).
@@ -180,26 +84,15 @@ fn sub_shift(t: &[u32; 256], s: [u32; 4]) -> [u32; 4]
     [a, b, c, d]
 }
 
-// A table's bytes for row 0 of a, row 1 of b, row 2 of c and row 3 of d.
-fn unsub_column(v: &[u8; 256], a: u32, b: u32, c: u32, d: u32) -> u32
-    ensures { λ r. ⌜ r ≡ pickedOf (now (v .entry)) a b c d ⌝ }
-{
-    let w = v[a as usize % 256];
-    let x = v[(b / 256) as usize % 256];
-    let y = v[(c / 65536) as usize % 256];
-    let z = v[(d / 16777216) as usize % 256];
-    pack(w, x, y, z)
-}
-
 // InvShiftRows, then InvSubBytes (5.3.1, 5.3.2).
 fn shift_sub(v: &[u8; 256], s: [u32; 4]) -> [u32; 4]
     requires { ⌜ now v ≡ invSbox ⌝ }
     ensures { λ r. ⌜ blockOf r ≡ substitute invSbox (invShiftRows (blockOf s)) ⌝ }
 {
-    let a = unsub_column(v, s[0], s[3], s[2], s[1]);
-    let b = unsub_column(v, s[1], s[0], s[3], s[2]);
-    let c = unsub_column(v, s[2], s[1], s[0], s[3]);
-    let d = unsub_column(v, s[3], s[2], s[1], s[0]);
+    let a = words::picked(v, s[0], s[3], s[2], s[1]);
+    let b = words::picked(v, s[1], s[0], s[3], s[2]);
+    let c = words::picked(v, s[2], s[1], s[0], s[3]);
+    let d = words::picked(v, s[3], s[2], s[1], s[0]);
     [a, b, c, d]
 }
 
@@ -225,7 +118,7 @@ pub fn encrypt_with(t: &[u32; 256], w: &[[u8; 16]; 11], s: [u8; 16]) -> [u8; 16]
     ensures { λ r. ⌜ r ≡ cipher (now (w .entry)) s ⌝ }
 {
     let first = w[0];
-    let mut x = with_key(columns(s), first);
+    let mut x = with_key(words::columns(s), first);
     let mut i = 0;
     while i < 9 {
         let k = w[i + 1];
@@ -234,7 +127,7 @@ pub fn encrypt_with(t: &[u32; 256], w: &[[u8; 16]; 11], s: [u8; 16]) -> [u8; 16]
         i += 1;
     }
     let last = w[10];
-    bytes_of(with_key(sub_shift(t, x), last))
+    words::bytes_of(with_key(sub_shift(t, x), last))
 }
 
 // The cipher on one block.
@@ -251,7 +144,7 @@ pub fn decrypt_with(v: &[u8; 256], u: &[u32; 256], w: &[[u8; 16]; 11], s: [u8; 1
     ensures { λ r. ⌜ r ≡ invCipher (now (w .entry)) s ⌝ }
 {
     let last = w[10];
-    let mut x = with_key(columns(s), last);
+    let mut x = with_key(words::columns(s), last);
     let mut i = 9;
     while 0 < i {
         let k = w[i];
@@ -260,7 +153,7 @@ pub fn decrypt_with(v: &[u8; 256], u: &[u32; 256], w: &[[u8; 16]; 11], s: [u8; 1
         i -= 1;
     }
     let first = w[0];
-    bytes_of(with_key(shift_sub(v, x), first))
+    words::bytes_of(with_key(shift_sub(v, x), first))
 }
 
 // The inverse cipher on one block.

@@ -32,7 +32,7 @@ fn agrees(kind: usize, line: &[u8]) -> bool {
     if words::field(line, 2, &mut key) != 16 {
         return words::differs(line, b"no key");
     }
-    let w = aes::expand(key);
+    let w = key_expansion::expand(key);
     match kind {
         2 => run::keys(&w, line),
         3 => run::ciphers(&w, false, line, 3, 4),

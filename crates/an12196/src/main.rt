@@ -1,11 +1,11 @@
 // The worked values of AN12196, computed by `messaging` and compared. Prints each value that differs, and the totals.
+use authentication::Proof;
 use libc::STDOUT_FILENO;
 use messaging::Closed;
 use messaging::Mode;
 use messaging::Opened;
-use messaging::Proof;
 use messaging::Session;
-use messaging::Tap;
+use sdm::Tap;
 
 mod values;
 
@@ -79,8 +79,8 @@ fn compare_block(t: Tally, name: &[u8], ours: [u8; 16], theirs: [u8; 16]) -> Tal
 // Part one of the authentication with key 0, and the check of part two.
 fn first_parts(t: Tally) -> Tally {
     let k = [0u8; 16];
-    let one = messaging::part_one(k, values::RND_B);
-    let got = messaging::check_part_two(k, values::RND_B, &values::PART_TWO);
+    let one = authentication::part_one(k, values::RND_B);
+    let got = authentication::check_part_two(k, values::RND_B, &values::PART_TWO);
     let proof = got.proof;
     let a = got.a;
     let t1 = compare_block(t, b"E(K0; RndB)", one, values::PART_ONE);
@@ -91,9 +91,9 @@ fn first_parts(t: Tally) -> Tally {
 // The reply of part two, and the session keys.
 fn last_part(t: Tally) -> Tally {
     let k = [0u8; 16];
-    let reply = messaging::first_reply(k, values::TI, values::RND_A, [0u8; 6]);
+    let reply = authentication::first_reply(k, values::TI, values::RND_A, [0u8; 6]);
     let t1 = compare(t, b"reply of part two", &reply, &values::PART_TWO_REPLY);
-    let keys = messaging::session_keys(k, values::RND_A, values::RND_B);
+    let keys = session_keys::session_keys(k, values::RND_A, values::RND_B);
     let enc = keys.enc;
     let mac = keys.mac;
     let t2 = compare_block(t1, b"SesAuthENCKey", enc, values::ENC_KEY);
@@ -176,7 +176,7 @@ fn change_file_settings(t: Tally) -> Tally {
 }
 
 fn change_keys(t: Tally) -> Tally {
-    let crc = messaging::crc_of(&values::KEY_TWO);
+    let crc = crc::crc_of(&values::KEY_TWO);
     let t1 = compare(t, b"CRC", &crc, &values::KEY_TWO_CRC);
     let t2 = command(
         t1,
@@ -217,10 +217,10 @@ fn first_tap(t: Tally) -> Tally {
         names: true,
         counts: true,
     };
-    let picc = messaging::picc_data(k, tap, random_of(&values::PADDING_ONE));
-    let keys = messaging::tap_keys(k, tap);
+    let picc = sdm::picc_data(k, tap, random_of(&values::PADDING_ONE));
+    let keys = sdm::tap_keys(k, tap);
     let key = keys.mac;
-    let mac = messaging::tap_mac(key, &[0u8; 0]);
+    let mac = sdm::tap_mac(key, &[0u8; 0]);
     let t1 = compare(t, b"PICCData of the first tap", &picc, &values::PICC_ONE);
     let t2 = compare(t1, b"SesSDMFileReadMACKey", &key, &values::MAC_KEY_ONE);
     compare(t2, b"SDMMAC of the first tap", &mac, &values::MAC_ONE)
@@ -234,13 +234,13 @@ fn second_tap(t: Tally) -> Tally {
         names: true,
         counts: true,
     };
-    let picc = messaging::picc_data(k, tap, random_of(&values::PADDING_TWO));
-    let keys = messaging::tap_keys(k, tap);
+    let picc = sdm::picc_data(k, tap, random_of(&values::PADDING_TWO));
+    let keys = sdm::tap_keys(k, tap);
     let enc = keys.enc;
     let key = keys.mac;
     let mut text = values::TEXT_TWO;
-    let whole = messaging::tap_encrypt(enc, 8, &mut text);
-    let mac = messaging::tap_mac(key, &values::INPUT_TWO);
+    let whole = sdm::tap_encrypt(enc, 8, &mut text);
+    let mac = sdm::tap_mac(key, &values::INPUT_TWO);
     let t1 = compare(t, b"PICCData of the second tap", &picc, &values::PICC_TWO);
     let t2 = count(t1, b"length of SDMENCFileData", whole);
     let t3 = compare(t2, b"SDMENCFileData", &text, &values::HIDDEN_TWO);

@@ -17,7 +17,7 @@ use Rattle.messaging.specs.declared.Session.{Session}
 use Rattle.messaging.specs.declared.Closed.{Closed}
 use Rattle.messaging.specs.declared.Closed.the-variants.{Reply, Over, Small}
 use Rattle.messaging.proofs.Closing.{short}
-use Rattle.messaging.proofs.Wrapping.{closed-length}
+use Rattle.both_ends.proofs.Messages.{closed-length}
 use Rattle.state.specs.declared.Tag.{Tag}
 use Rattle.answer.specs.Answer.{given, refusal, raised, sessionOf, afterwards, accepted, answerOf, Gives}
 

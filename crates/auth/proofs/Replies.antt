@@ -8,9 +8,9 @@ use lib.ListN.{length, take, replicate}
 use Rattle.base.specs.Decide.{pick}
 use Rattle.base.specs.Bytes.{laid}
 use Rattle.base.proofs.Bytes.{none, more, front}
-use Rattle.messaging.specs.declared.Proof.the-variants.{Right, NotThirtyTwo, WrongRndB}
-use Rattle.messaging.specs.declared.PartTwo.{PartTwo}
-use Rattle.messaging.specs.Authentication.{deciphered, judged, aOf, partTwo, proofStatus}
+use Rattle.authentication.specs.declared.Proof.the-variants.{Right, NotThirtyTwo, WrongRndB}
+use Rattle.authentication.specs.declared.PartTwo.{PartTwo}
+use Rattle.authentication.specs.Authentication.{deciphered, proofOf, aOf, partTwo, proofStatus}
 use Rattle.state.specs.declared.Tag.{Tag}
 use Rattle.state.specs.State.{keyIn}
 use Rattle.answer.specs.declared.Done.{Done}
@@ -37,26 +37,26 @@ passed-over false a b e = refl
 -- part two, by what its check came to
 module _ (t : Tag) (x random kx : List ℕ) (r : PartTwo) (k : kx ≡ keyIn (t .secrets .keys) (t .pending .key))
     (e : r ≡ partTwo kx (t .pending .«rnd_b») x) where
-  judged-as : r .proof ≡ judged kx (t .pending .«rnd_b») x
+  proof-as : r .proof ≡ proofOf kx (t .pending .«rnd_b») x
   unfolding partTwo
-  judged-as = ap (λ q. q .proof) e
+  proof-as = ap (λ q. q .proof) e
 
-  by-key : byProof t kx x random (judged kx (t .pending .«rnd_b») x) ≡ partTwoAnswer t x random
+  by-key : byProof t kx x random (proofOf kx (t .pending .«rnd_b») x) ≡ partTwoAnswer t x random
   unfolding partTwoAnswer
-  by-key = ap (λ y. byProof t y x random (judged y (t .pending .«rnd_b») x)) k
+  by-key = ap (λ y. byProof t y x random (proofOf y (t .pending .«rnd_b») x)) k
 
   pub two-right : r .proof ≡ Right → entered t kx (r .a) random ≡ partTwoAnswer t x random
   unfolding partTwo
   two-right h =
-      let j : judged kx (t .pending .«rnd_b») x ≡ Right = sym judged-as ∙ h in
+      let j : proofOf kx (t .pending .«rnd_b») x ≡ Right = sym proof-as ∙ h in
       ap (λ a. entered t kx a random) (ap (λ q. q .a) e ∙ ap (aOf (deciphered kx x)) j)
       ∙ ap (byProof t kx x random) (sym j)
       ∙ by-key
 
   pub two-short : r .proof ≡ NotThirtyTwo → refusal t 0x917E ≡ partTwoAnswer t x random
   unfolding proofStatus
-  two-short h = ap (byProof t kx x random) (sym h ∙ judged-as) ∙ by-key
+  two-short h = ap (byProof t kx x random) (sym h ∙ proof-as) ∙ by-key
 
   pub two-wrong : r .proof ≡ WrongRndB → refusal t 0x91AE ≡ partTwoAnswer t x random
   unfolding proofStatus
-  two-wrong h = ap (byProof t kx x random) (sym h ∙ judged-as) ∙ by-key
+  two-wrong h = ap (byProof t kx x random) (sym h ∙ proof-as) ∙ by-key

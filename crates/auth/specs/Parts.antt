@@ -6,10 +6,10 @@ use lib.Dec.{eqb, ltb}
 use lib.ListN.{length, take, drop, replicate}
 use Rattle.base.specs.Decide.{pick}
 use Rattle.base.specs.Bytes.{byteAt}
-use Rattle.messaging.specs.declared.Proof.{Proof}
-use Rattle.messaging.specs.declared.Proof.the-variants.{Right, NotThirtyTwo, WrongRndB}
-use Rattle.messaging.specs.Authentication.{enciphered, deciphered, judged, proofStatus, firstReply, nextReply}
-use Rattle.messaging.specs.Keys.{encKey, macKey}
+use Rattle.authentication.specs.declared.Proof.{Proof}
+use Rattle.authentication.specs.declared.Proof.the-variants.{Right, NotThirtyTwo, WrongRndB}
+use Rattle.authentication.specs.Authentication.{enciphered, deciphered, proofOf, proofStatus, firstReply, nextReply}
+use Rattle.session_keys.specs.Keys.{encKey, macKey}
 use Rattle.state.specs.declared.Live.{Live}
 use Rattle.state.specs.declared.Pending.{Pending}
 use Rattle.state.specs.declared.Tag.{Tag}
@@ -95,4 +95,4 @@ byProof t kx x random WrongRndB = refusal t (proofStatus WrongRndB)
 unfoldable pub partTwoAnswer : Tag → List ℕ → List ℕ → Answer
 partTwoAnswer t x random =
     let kx = keyIn (t .secrets .keys) (t .pending .key) in
-    byProof t kx x random (judged kx (t .pending .«rnd_b») x)
+    byProof t kx x random (proofOf kx (t .pending .«rnd_b») x)

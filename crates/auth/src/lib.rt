@@ -5,7 +5,7 @@ ghost use lib.ListN.{length, take, drop};
 ghost use Rattle.answer.specs.Answer.{Gives, given};
 ghost use Rattle.auth.specs.Parts.{keyStatus, valuesStatus, firstStatus, nextStatus, talking, begun, capOf, partOneFirst, partOneNext, sessionFrom, enteredFirst, enteredNext, entered, partTwoAnswer};
 use answer::Done;
-use messaging::Proof;
+use authentication::Proof;
 use state::Live;
 use state::Pending;
 use state::Tag;
@@ -127,7 +127,7 @@ fn begin(tag: Tag, p: Pending) -> Done
 {
     let keys = tag.secrets.keys;
     let b = p.rnd_b;
-    let e = messaging::part_one(state::key_of(keys, p.key), b);
+    let e = authentication::part_one(state::key_of(keys, p.key), b);
     reply(talk(tag, state::no_live(), p), 0x91AF, &e)
 }
 
@@ -177,7 +177,7 @@ fn session(p: Pending, kx: [u8; 16], a: [u8; 16], ti: [u8; 4]) -> Live
     ensures { λ r. ⌜ r ≡ sessionFrom p kx a ti ⌝ }
 {
     let b = p.rnd_b;
-    let k = messaging::session_keys(kx, a, b);
+    let k = session_keys::session_keys(kx, a, b);
     let enc = k.enc;
     let mac = k.mac;
     Live {
@@ -197,7 +197,7 @@ fn enter_first(tag: Tag, kx: [u8; 16], a: [u8; 16], random: [u8; 20]) -> Done
     let p = tag.pending;
     let cap = p.cap;
     let ti = ti_of(random);
-    let e = messaging::first_reply(kx, ti, a, cap);
+    let e = authentication::first_reply(kx, ti, a, cap);
     let l = session(p, kx, a, ti);
     reply(talk(tag, l, state::no_pending()), 0x9100, &e)
 }
@@ -208,7 +208,7 @@ fn enter_next(tag: Tag, kx: [u8; 16], a: [u8; 16]) -> Done
 {
     let p = tag.pending;
     let ti = p.ti;
-    let e = messaging::next_reply(kx, a);
+    let e = authentication::next_reply(kx, a);
     let l = session(p, kx, a, ti);
     reply(talk(tag, l, state::no_pending()), 0x9100, &e)
 }
@@ -231,7 +231,7 @@ pub fn second(tag: Tag, x: &[u8], random: [u8; 20]) -> Done
     let keys = tag.secrets.keys;
     let kx = state::key_of(keys, p.key);
     let b = p.rnd_b;
-    let r = messaging::check_part_two(kx, b, x);
+    let r = authentication::check_part_two(kx, b, x);
     let a = r.a;
     let proof = r.proof;
     match proof {

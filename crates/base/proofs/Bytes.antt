@@ -42,6 +42,11 @@ le-or-lt a b = elim (decLe a b) [ yes p ↦ inl p | no p ↦ inr (omega arith) ]
 not-both : false ≡ true → ⊥
 not-both p = let z : _≡_ {A = ℕ} 0 1 = ap (λ (t : Bool). pick t 1 0) p in omega arith
 
+-- what is computed of one of two answers
+pub pick-of : {A B : Type 0} (f : A → B) (t : Bool) (a b : A) → f (pick t a b) ≡ pick t (f a) (f b)
+pick-of f true a b = refl
+pick-of f false a b = refl
+
 pub and-left : (a b : Bool) → and a b ≡ true → a ≡ true
 and-left true b e = refl
 and-left false b e = e

@@ -13,18 +13,19 @@ use Rattle.base.specs.Bytes.{byteAt, AllBytes}
 use Rattle.base.proofs.Bytes.{append-bytes}
 use Rattle.aes.specs.Block.{IsBlock}
 use Rattle.aes.specs.Cbc.{cbcOut}
-use Rattle.aes.specs.Keys.{keyExpansion}
-use Rattle.aes.proofs.Chaining.{cbcOut-length}
-use Rattle.aes.proofs.Inverse.{cipher-block}
-use Rattle.aes.proofs.KeyBlocks.{keys-are}
-use Rattle.aes.proofs.Macs.{mac-length}
+use Rattle.key_expansion.specs.Keys.{keyExpansion}
+use Rattle.inverse.proofs.Chaining.{cbcOut-length}
+use Rattle.inverse.proofs.Inverse.{cipher-block}
+use Rattle.inverse.proofs.KeyBlocks.{keys-are}
+use Rattle.inverse.proofs.MacBlocks.{mac-length}
 use Rattle.messaging.specs.declared.Mode.{Mode}
 use Rattle.messaging.specs.declared.Mode.the-variants.{Plain, Mac, Full}
 use Rattle.messaging.specs.declared.Session.{Session}
-use Rattle.messaging.specs.Padding.{padded, paddedLength}
-use Rattle.messaging.specs.Protect.{mac, messageMac, commandIv, sent, signed}
-use Rattle.messaging.specs.Command.{wrapped}
-use Rattle.messaging.proofs.Unpadding.{padded-length}
+use Rattle.padding.specs.Padding.{padded, paddedLength}
+use Rattle.messaging.specs.Protect.{messageMac, commandIv, sent, signed}
+use Rattle.aes.specs.Cmac.{mac}
+use Rattle.messaging.specs.Command.{sentCommand}
+use Rattle.padding.proofs.Unpadding.{padded-length}
 use Rattle.state.specs.declared.Tag.{Tag}
 use Rattle.answer.specs.Answer.{Answer}
 use Rattle.tag.specs.Wrapped.{oneOf, formRight, partOf, orderStatus, headerLength, fileStatus, byteStatus, frontStatus, talk, commanded, wrapped as onWrapped}
@@ -81,8 +82,8 @@ signed-bound Full s first body = omega (arith, length-append body (messageMac s 
 
 -- a header, its data padded to blocks, and a MAC of 8
 pub wrapped-bound : (s : Session) (m : Mode) (cmd : ℕ) (header d : List ℕ) → IsBlock (s .enc) → AllBytes d
-    → length (wrapped s m cmd header true d) ≤ length header + length d + 24
-unfolding wrapped
+    → length (sentCommand s m cmd header true d) ≤ length header + length d + 24
+unfolding sentCommand
 wrapped-bound s m cmd header d k h =
     let p = sent m s (commandIv s) true d in
     omega (arith, signed-bound m s cmd (header ++ p), length-append header p, part-bound s k d h m)
@@ -94,8 +95,8 @@ signed-first Plain s first n p = refl
 signed-first Mac s first n p = refl
 signed-first Full s first n p = refl
 
-pub wrapped-first : (s : Session) (m : Mode) (cmd n : ℕ) (d : List ℕ) → byteAt (wrapped s m cmd (n ∷ []) true d) 0 ≡ n
-unfolding wrapped
+pub wrapped-first : (s : Session) (m : Mode) (cmd n : ℕ) (d : List ℕ) → byteAt (sentCommand s m cmd (n ∷ []) true d) 0 ≡ n
+unfolding sentCommand
 wrapped-first s m cmd n d = signed-first m s cmd n (sent m s (commandIv s) true d)
 
 signed-filled : (m : Mode) (s : Session) (first n : ℕ) (p : List ℕ) → 1 ≤ length (signed m s first (n ∷ p))
@@ -104,8 +105,8 @@ signed-filled Plain s first n p = omega arith
 signed-filled Mac s first n p = omega arith
 signed-filled Full s first n p = omega arith
 
-pub wrapped-filled : (s : Session) (m : Mode) (cmd n : ℕ) (d : List ℕ) → 1 ≤ length (wrapped s m cmd (n ∷ []) true d)
-unfolding wrapped
+pub wrapped-filled : (s : Session) (m : Mode) (cmd n : ℕ) (d : List ℕ) → 1 ≤ length (sentCommand s m cmd (n ∷ []) true d)
+unfolding sentCommand
 wrapped-filled s m cmd n d = signed-filled m s cmd n (sent m s (commandIv s) true d)
 
 -- ---- steps 1 to 4

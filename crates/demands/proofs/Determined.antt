@@ -12,13 +12,13 @@ use Rattle.aes.specs.Cbc.{Chains}
 use Rattle.messaging.specs.declared.Closed.{Closed}
 use Rattle.messaging.specs.declared.Mode.{Mode}
 use Rattle.messaging.specs.declared.Opened.{Opened}
-use Rattle.messaging.specs.declared.Padded.{Padded}
+use Rattle.padding.specs.declared.Padded.{Padded}
 use Rattle.messaging.specs.declared.Session.{Session}
-use Rattle.messaging.specs.Command.{Opens, Gives as Tells}
-use Rattle.messaging.specs.Padding.{Pads}
+use Rattle.messaging.specs.Command.{Opens, OpensInto}
+use Rattle.padding.specs.Padding.{Pads}
 use Rattle.messaging.specs.Protect.{Opening}
 use Rattle.messaging.specs.Reply.{Seals, Closes}
-use Rattle.messaging.specs.Tap.{Mirrors, Hides}
+use Rattle.sdm.specs.Tap.{Mirrors, Hides}
 use Rattle.state.specs.declared.Tag.{Tag}
 use Rattle.answer.specs.declared.Done.{Done}
 use Rattle.answer.specs.Answer.{Answer, answerOf, Gives}
@@ -57,8 +57,8 @@ calls-once r q new other p h = twice r q new other (p .told, p .left) (h .told, 
 pub seals-once : {p : List ℕ} {k : ℕ} {old : List ℕ} → DeterminedIn (λ (r : ℕ) (new : List ℕ). Seals p k old r new)
 seals-once r q new other p h = twice r q new other (p .count, p .room) (h .count, h .room)
 
-pub tells-once : {o : Opening} {old : List ℕ} → DeterminedIn (λ (r : Opened) (new : List ℕ). Tells o old r new)
-tells-once r q new other p h = twice r q new other (p .answer, p .room) (h .answer, h .room)
+pub opens-into-once : {o : Opening} {old : List ℕ} → DeterminedIn (λ (r : Opened) (new : List ℕ). OpensInto o old r new)
+opens-into-once r q new other p h = twice r q new other (p .answer, p .room) (h .answer, h .room)
 
 pub mirrors-once : {p : List ℕ} → DeterminedIn (λ (n : ℕ) (b : List ℕ). Mirrors p b n)
 mirrors-once n m b other p h = twice n m b other (p .count, p .bytes) (h .count, h .bytes)

@@ -7,12 +7,13 @@ use lib.Dec.{leb}
 use Rattle.base.specs.Decide.{pick}
 use Rattle.base.specs.Bytes.{byteAt, same, laid}
 use Rattle.sbox.specs.Tables.{sbox, invSbox}
-use Rattle.sbox.specs.Words.{mixingTable, unmixingTable}
+use Rattle.sbox.specs.Words.{packed, mixingTable, unmixingTable}
+use Rattle.words.specs.Words.{blockOf, wordsOf, columnOf, pickedOf}
 use Rattle.aes.specs.declared.Chained.{Chained}
 use Rattle.aes.specs.Block.{cipher, invCipher}
 use Rattle.aes.specs.Cbc.{cbcOut, cbcBack, Chains}
-use Rattle.aes.specs.Cmac.{cmac, evenPlaces}
-use Rattle.aes.specs.Keys.{keyExpansion}
+use Rattle.aes.specs.Cmac.{cmac, evenPlaces, mac}
+use Rattle.key_expansion.specs.Keys.{keyExpansion}
 use Rattle.settings.specs.declared.Head.{Head}
 use Rattle.settings.specs.declared.Normalised.{Normalised}
 use Rattle.settings.specs.declared.Reading.{Reading}
@@ -26,22 +27,23 @@ use Rattle.settings.specs.Spans.{readingOf}
 use Rattle.settings.specs.Rules.{meets}
 use Rattle.settings.specs.Answers.{statusWord, judged, normalised, normalRoom, readAs, writtenAs, writtenRoom}
 use Rattle.messaging.specs.declared.Closed.{Closed}
-use Rattle.messaging.specs.declared.Keys.{Keys}
+use Rattle.session_keys.specs.declared.Keys.{Keys}
 use Rattle.messaging.specs.declared.Mode.{Mode}
 use Rattle.messaging.specs.declared.Opened.{Opened}
-use Rattle.messaging.specs.declared.Padded.{Padded}
-use Rattle.messaging.specs.declared.PartTwo.{PartTwo}
+use Rattle.padding.specs.declared.Padded.{Padded}
+use Rattle.authentication.specs.declared.PartTwo.{PartTwo}
 use Rattle.messaging.specs.declared.Session.{Session}
-use Rattle.messaging.specs.declared.Tap.{Tap}
-use Rattle.messaging.specs.declared.Unpadded.{Unpadded}
-use Rattle.messaging.specs.Authentication.{enciphered, partTwo, firstReply, nextReply}
+use Rattle.sdm.specs.declared.Tap.{Tap}
+use Rattle.sdm.specs.declared.TapKeys.{TapKeys}
+use Rattle.padding.specs.declared.Unpadded.{Unpadded}
+use Rattle.authentication.specs.Authentication.{enciphered, partTwo, firstReply, nextReply}
 use Rattle.messaging.specs.Command.{opening, Opens}
-use Rattle.messaging.specs.Crc.{crc}
-use Rattle.messaging.specs.Keys.{sessionKeys}
-use Rattle.messaging.specs.Padding.{unpad, Pads}
-use Rattle.messaging.specs.Protect.{commandIv, replyIv, mac}
+use Rattle.crc.specs.Crc.{crc}
+use Rattle.session_keys.specs.Keys.{sessionKeys}
+use Rattle.padding.specs.Padding.{unpad, Pads}
+use Rattle.messaging.specs.Protect.{commandIv, replyIv}
 use Rattle.messaging.specs.Reply.{overlong, Closes}
-use Rattle.messaging.specs.Tap.{piccData, tapKeys, tapIv, Hides}
+use Rattle.sdm.specs.Tap.{piccData, tapKeys, tapIv, Hides}
 use Rattle.lines.specs.declared.Decoded.{Decoded}
 use Rattle.lines.specs.Lines.{seek}
 use Rattle.lines.specs.Hex.{digitOf, charOf, isHex, decoded, decodedRoom, charsRoom}
@@ -86,10 +88,27 @@ mixing-determined = once
 pub unmixing-determined : Determined (λ (r : List ℕ). r ≡ unmixingTable)
 unmixing-determined = once
 
--- ---- aes
+-- ---- words
+pub pack-determined : (a b c d : ℕ) → Determined (λ (r : ℕ). r ≡ packed a b c d)
+pack-determined a b c d = once
+
+pub columns-determined : (s : List ℕ) → Determined (λ (r : List ℕ). (r ≡ wordsOf s) × (blockOf r ≡ s))
+columns-determined s r q p h = once r q (p .0) (h .0)
+
+pub bytes-of-determined : (s : List ℕ) → Determined (λ (r : List ℕ). r ≡ blockOf s)
+bytes-of-determined s = once
+
+pub column-determined : (t : List ℕ) (a b c d : ℕ) → Determined (λ (r : ℕ). r ≡ columnOf t a b c d)
+column-determined t a b c d = once
+
+pub picked-determined : (v : List ℕ) (a b c d : ℕ) → Determined (λ (r : ℕ). r ≡ pickedOf v a b c d)
+picked-determined v a b c d = once
+
+-- ---- key_expansion
 pub expand-determined : (key : List ℕ) → Determined (λ (r : List (List ℕ)). r ≡ keyExpansion key)
 expand-determined key = once
 
+-- ---- aes
 pub encrypt-determined : (w : List (List ℕ)) (s : List ℕ) → Determined (λ (r : List ℕ). r ≡ cipher w s)
 encrypt-determined w s = once
 
@@ -135,7 +154,7 @@ pub write-determined : (file : ℕ) (r : Settings) (room : List ℕ)
     → DeterminedIn (λ (w : Written) (new : List ℕ). (w ≡ writtenAs (meets file r) r room) × (new ≡ writtenRoom (meets file r) r room))
 write-determined file r room = twice
 
--- ---- messaging
+-- ---- crc, sdm, authentication, session_keys, padding, messaging
 pub check-part-two-determined : (kx b x : List ℕ) → Determined (λ (r : PartTwo). r ≡ partTwo kx b x)
 check-part-two-determined kx b x = once
 
@@ -187,7 +206,7 @@ tap-encrypt-determined key counter text = hides-once
 pub tap-iv-determined : (key : List ℕ) (counter : ℕ) → Determined (λ (r : List ℕ). r ≡ tapIv key counter)
 tap-iv-determined key counter = once
 
-pub tap-keys-determined : (key : List ℕ) (t : Tap) → Determined (λ (r : Keys). r ≡ tapKeys key t)
+pub tap-keys-determined : (key : List ℕ) (t : Tap) → Determined (λ (r : TapKeys). r ≡ tapKeys key t)
 tap-keys-determined key t = once
 
 pub tap-mac-determined : (key text : List ℕ) → Determined (λ (r : List ℕ). r ≡ mac key text)

@@ -19,9 +19,9 @@ use Rattle.messaging.specs.declared.Mode.{Mode}
 use Rattle.messaging.specs.declared.Mode.the-variants.{Plain, Mac, Full}
 use Rattle.messaging.specs.declared.Session.{Session}
 use Rattle.messaging.specs.Protect.{messageMac, sent, signed, plain}
-use Rattle.messaging.specs.Command.{wrapped, opening}
+use Rattle.messaging.specs.Command.{sentCommand, opening}
 use Rattle.messaging.specs.Reply.{closed, overlong}
-use Rattle.messaging.proofs.Wrapping.{wrapped-opens}
+use Rattle.both_ends.proofs.Messages.{sent-command-opens}
 use Rattle.settings.specs.declared.Head.{Head}
 use Rattle.settings.specs.declared.Settings.{Settings}
 use Rattle.settings.specs.declared.Verdict.the-variants.{Good}
@@ -122,7 +122,7 @@ module _ (t : Tag) (n : ℕ) (m : Mode) (s : List ℕ) where
 
     carried-opens : opening (sessionOf (t .live)) m 0x5F (carried t m n s) 1 true ≡ plain s
     unfolding carried sessionOf
-    carried-opens = wrapped-opens (sessionOf (t .live)) m 0x5F (n ∷ []) true s k b (λ z. absurd (not-both (sym z)))
+    carried-opens = sent-command-opens (sessionOf (t .live)) m 0x5F (n ∷ []) true s k b (λ z. absurd (not-both (sym z)))
 
 module _ (t : Tag) (n : ℕ) (m : Mode) (s : List ℕ) (random : List ℕ) (P : Answer → Type 0) where
   -- step 9: a good string is stored
@@ -175,12 +175,12 @@ module _ (t : Tag) (n : ℕ) (r : Settings) (m : Mode) (h : Ready t n m) (e : me
   reply-full s u = refl
 
   plain-command : changing t Plain n (stringOf r) ≡ 0x90 ∷ 0x5F ∷ 0 ∷ 0 ∷ (1 + length (stringOf r)) ∷ n ∷ (stringOf r ++ 0 ∷ [])
-  unfolding changing carried built wrapped signed sent
+  unfolding changing carried built sentCommand signed sent
   plain-command =
       let k : suc (length (stringOf r)) ≡ 1 + length (stringOf r) = omega arith in
       ap (λ l. 0x90 ∷ 0x5F ∷ 0 ∷ 0 ∷ l ∷ n ∷ (stringOf r ++ 0 ∷ [])) k
 
-  full-command : changing t Full n (stringOf r) ≡ built 0x5F (wrapped (sessionOf (t .live)) Full 0x5F (n ∷ []) true (stringOf r))
+  full-command : changing t Full n (stringOf r) ≡ built 0x5F (sentCommand (sessionOf (t .live)) Full 0x5F (n ∷ []) true (stringOf r))
   unfolding changing carried
   full-command = refl
 

@@ -10,7 +10,7 @@ use Rattle.aes.specs.Block.{IsBlock}
 use Rattle.messaging.specs.declared.Mode.{Mode}
 use Rattle.messaging.specs.declared.Mode.the-variants.{Plain, Full}
 use Rattle.messaging.specs.Protect.{messageMac}
-use Rattle.messaging.specs.Command.{wrapped}
+use Rattle.messaging.specs.Command.{sentCommand}
 use Rattle.messaging.specs.Reply.{closed}
 use Rattle.settings.specs.declared.Settings.{Settings}
 use Rattle.settings.specs.Fields.{readOf, stringOf}
@@ -37,7 +37,7 @@ changeOf t n = readingIn (t .files) n .settings .head .change
 
 -- what the other side sends: ChangeFileSettings of file n, its data the string in the mode, under the session's keys
 unfoldable pub carried : Tag → Mode → ℕ → List ℕ → List ℕ
-carried t m n s = wrapped (sessionOf (t .live)) m 0x5F (n ∷ []) true s
+carried t m n s = sentCommand (sessionOf (t .live)) m 0x5F (n ∷ []) true s
 
 unfoldable pub changing : Tag → Mode → ℕ → List ℕ → List ℕ
 changing t m n s = built 0x5F (carried t m n s)
@@ -75,7 +75,7 @@ pub record UnderKey (t : Tag) (n : ℕ) (s : List ℕ) (m : Mode) (random : List
   pub live : t .live .on ≡ true
   pub right : changeOf t n ≡ t .live .key
   pub mode : m ≡ Full
-  pub command : changing t m n s ≡ built 0x5F (wrapped (sessionOf (t .live)) Full 0x5F (n ∷ []) true s)
+  pub command : changing t m n s ≡ built 0x5F (sentCommand (sessionOf (t .live)) Full 0x5F (n ∷ []) true s)
   pub counted : raised (t .live) .counter ≡ t .live .counter + 1
   pub reply : replyOf (answered t (changing t m n s) random) ≡ messageMac (sessionOf (raised (t .live))) 0 [] ++ 0x91 ∷ 0x00 ∷ []
 

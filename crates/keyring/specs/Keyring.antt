@@ -6,7 +6,7 @@ use lib.ListN.{length, drop}
 use lib.Bits.{bitXor}
 use Rattle.base.specs.Decide.{pick}
 use Rattle.base.specs.Bytes.{byteAt, same, laid, tab}
-use Rattle.messaging.specs.Crc.{crc}
+use Rattle.crc.specs.Crc.{crc}
 use Rattle.messaging.specs.declared.Mode.{Mode}
 use Rattle.messaging.specs.declared.Mode.the-variants.{Full}
 use Rattle.state.specs.declared.Secrets.{Secrets}

@@ -44,7 +44,7 @@ fn change_status(p: &[u8], k: u8, new: [u8; 16]) -> u16
         return 0x917E;
     }
     if p.len() == 21 {
-        let c = messaging::crc_of(&new);
+        let c = crc::crc_of(&new);
         if base::alike(&p[17..], &c) {
             return 0;
         }

@@ -11,18 +11,19 @@ use borrow.Author.Tests.{le-leb, le-ltb, lt-ltb, ltb-false}
 use Rattle.base.specs.Bytes.{over}
 use Rattle.base.proofs.Bytes.{Holds, front, le-or-lt}
 use Rattle.aes.specs.Cbc.{Chains, cbcOut}
-use Rattle.aes.specs.Keys.{keyExpansion}
+use Rattle.key_expansion.specs.Keys.{keyExpansion}
 use Rattle.aes.specs.declared.Chained.{Chained}
-use Rattle.messaging.specs.Padding.{padded, paddedLength, paddedIn, Pads}
+use Rattle.padding.specs.Padding.{padded, paddedLength, paddedIn, Pads}
 use Rattle.messaging.specs.Protect.{messageMac, sent, signed, replyIv}
 use Rattle.messaging.specs.Reply.{filled, closed, hiddenLength, closedLength, overlong, closing, closedIn, Seals, Closes}
 use Rattle.messaging.specs.declared.Session.{Session}
 use Rattle.messaging.specs.declared.Mode.{Mode}
 use Rattle.messaging.specs.declared.Mode.the-variants.{Plain, Mac, Full}
 use Rattle.messaging.specs.declared.Closed.the-variants.{Reply, Over, Small}
-use Rattle.messaging.specs.declared.Padded.{Padded}
-use Rattle.messaging.proofs.Pieces.{chained, over-over}
-use Rattle.messaging.proofs.Unpadding.{padded-length}
+use Rattle.padding.specs.declared.Padded.{Padded}
+use Rattle.base.proofs.Pieces.{over-over}
+use Rattle.aes.proofs.Turns.{chains-whole}
+use Rattle.padding.proofs.Unpadding.{padded-length}
 
 pub hidden-some : (n : ℕ) → 1 ≤ n → hiddenLength n ≡ n / 16 * 16 + 16
 unfolding hiddenLength paddedLength
@@ -70,7 +71,7 @@ seals-some s iv old mid new w n r q g f p a b c l =
     let i : take e mid ≡ d = front h in
     let j : length (take e mid) ≡ e = ap length i ∙ sym (h .len) in
     let k : new ≡ cbcOut (keyExpansion (s .enc)) (replyIv s) d =
-    chained c (rw j (omega arith)) ∙ ap₂ (λ x y. cbcOut x y (take e mid)) a b ∙ ap (cbcOut (keyExpansion (s .enc)) (replyIv s)) i in
+    chains-whole c (rw j (omega arith)) ∙ ap₂ (λ x y. cbcOut x y (take e mid)) a b ∙ ap (cbcOut (keyExpansion (s .enc)) (replyIv s)) i in
     let o : drop e mid ≡ drop e old = ap (drop e) (h .is) ∙ drop-at d (drop (length d) old) e (sym (h .len)) ∙ ap (λ y. drop y old) (sym (h .len)) in
     rw (le-leb 1 n g)
     (record {

@@ -1,9 +1,3 @@
-pub mod Authenticating
+pub mod Answers
 pub mod Closing
-pub mod CrcSteps
-pub mod Mirroring
 pub mod Opening
-pub mod PartTwos
-pub mod Pieces
-pub mod Unpadding
-pub mod Wrapping

@@ -12,10 +12,10 @@ use Rattle.base.specs.Decide.{or}
 use Rattle.base.specs.Bytes.{same}
 use Rattle.base.proofs.Bytes.{and-left, and-right}
 use Rattle.aes.specs.Cbc.{cbcBack}
-use Rattle.aes.specs.Keys.{keyExpansion}
-use Rattle.messaging.specs.Padding.{blocks, unpad}
+use Rattle.key_expansion.specs.Keys.{keyExpansion}
+use Rattle.padding.specs.Padding.{blocks, unpad}
 use Rattle.messaging.specs.Protect.{commandIv, macLength, messageMac, Opening, plain, wrongLength, wrongMac, textOf, content, macRight}
-use Rattle.messaging.specs.Command.{partRight, lengthRight, checked, opening, answers, leaves, Gives, Opens}
+use Rattle.messaging.specs.Command.{partRight, lengthRight, checked, opening, answers, leaves, OpensInto, Opens}
 use Rattle.messaging.specs.declared.Session.{Session}
 use Rattle.messaging.specs.declared.Mode.{Mode}
 use Rattle.messaging.specs.declared.Mode.the-variants.{Plain, Mac, Full}
@@ -70,9 +70,9 @@ unfolding content
 content-none s v p = refl
 
 -- what opens where nothing is refused before
-pub gives-opens : {x old new : List ℕ} {o : Opening} {r : Opened} → length x ≤ 255 → length x ≤ length old → Gives o old r new → Opens x o old r new
+pub into-opens : {x old new : List ℕ} {o : Opening} {r : Opened} → length x ≤ 255 → length x ≤ length old → OpensInto o old r new → Opens x o old r new
 unfolding answers leaves
-gives-opens {x} {old} {new} {o} {r} f g h =
+into-opens {x} {old} {new} {o} {r} f g h =
     record {
       answer = h .answer ∙ rw (le-ltb 255 (length x) f, le-ltb (length old) (length x) g) refl;
       room = h .room ∙ rw (le-ltb 255 (length x) f, le-ltb (length old) (length x) g) refl;

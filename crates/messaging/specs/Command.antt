@@ -7,7 +7,7 @@ use lib.Dec.{eqb, leb, ltb}
 use lib.ListN.{length, take, drop}
 use Rattle.base.specs.Decide.{pick, and, or}
 use Rattle.base.specs.Bytes.{over}
-use Rattle.messaging.specs.Padding.{blocks}
+use Rattle.padding.specs.Padding.{blocks}
 use Rattle.messaging.specs.Protect.{commandIv, macLength, sent, signed, Opening, plain, wrongLength, wrongMac, wrongPadding, content, macRight}
 use Rattle.messaging.specs.declared.Session.{Session}
 use Rattle.messaging.specs.declared.Mode.{Mode}
@@ -16,8 +16,8 @@ use Rattle.messaging.specs.declared.Opened.{Opened}
 use Rattle.messaging.specs.declared.Opened.the-variants.{Data, WrongLength, WrongMac, WrongPadding, TooLong, NoRoom}
 
 -- what the other side sends: header, data part and MAC
-unfoldable pub wrapped : Session → Mode → ℕ → List ℕ → Bool → List ℕ → List ℕ
-wrapped s m cmd header there d = signed m s cmd (header ++ sent m s (commandIv s) there d)
+unfoldable pub sentCommand : Session → Mode → ℕ → List ℕ → Bool → List ℕ → List ℕ
+sentCommand s m cmd header there d = signed m s cmd (header ++ sent m s (commandIv s) there d)
 
 -- 01: a data part has any length in MAC, and in Full is a multiple of 16, at least 16; without one there is nothing
 unfoldable pub partRight : Mode → Bool → ℕ → Bool
@@ -53,7 +53,7 @@ left old wrongLength = old
 left old wrongMac = old
 left old wrongPadding = old
 
-pub record Gives (o : Opening) (old : List ℕ) (r : Opened) (new : List ℕ) : Type 0 where
+pub record OpensInto (o : Opening) (old : List ℕ) (r : Opened) (new : List ℕ) : Type 0 where
   pub answer : r ≡ told o
   pub room : new ≡ left old o
 
@@ -68,11 +68,12 @@ pub record Opens (x : List ℕ) (o : Opening) (old : List ℕ) (r : Opened) (new
   pub answer : r ≡ answers x old o
   pub room : new ≡ leaves x old o
 
--- 01's status for each answer; a command that is refused by house rules alone has none
+-- 01's status for each answer; the two that are refused by house rules alone have none, and the house's numbers 1 and 2
+-- (proofs/Answers.antt: opens-status)
 unfoldable pub openedStatus : Opened → ℕ
 openedStatus (Data n) = 0x9100
 openedStatus WrongLength = 0x917E
 openedStatus WrongMac = 0x911E
 openedStatus WrongPadding = 0x911E
-openedStatus TooLong = 0x917E
-openedStatus NoRoom = 0
+openedStatus TooLong = 1
+openedStatus NoRoom = 2

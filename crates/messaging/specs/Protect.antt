@@ -1,4 +1,4 @@
--- 9.1.3, 9.1.4, 9.1.9 and 9.1.10: the MAC of a message, the initial vectors, and what a message holds.
+-- 9.1.4, 9.1.9 and 9.1.10: the MAC of a message, the initial vectors, and what a message holds.
 use mathlib.Core.Bool.{Bool, true}
 use mathlib.Core.List.{List, [], _∷_, _++_}
 use Prim.Native.Nat.{ℕ, _+_}
@@ -7,18 +7,14 @@ use Rattle.base.specs.Decide.{pick}
 use Rattle.base.specs.Bytes.{low, same}
 use Rattle.aes.specs.Block.{cipher}
 use Rattle.aes.specs.Cbc.{cbcOut, cbcBack}
-use Rattle.aes.specs.Cmac.{cmac, evenPlaces}
-use Rattle.aes.specs.Keys.{keyExpansion}
-use Rattle.messaging.specs.Padding.{padded, unpad}
+use Rattle.aes.specs.Cmac.{mac}
+use Rattle.key_expansion.specs.Keys.{keyExpansion}
+use Rattle.padding.specs.Padding.{padded, unpad}
 use Rattle.messaging.specs.declared.Session.{Session}
 use Rattle.messaging.specs.declared.Mode.{Mode}
 use Rattle.messaging.specs.declared.Mode.the-variants.{Plain, Mac, Full}
-use Rattle.messaging.specs.declared.Unpadded.{Unpadded}
-use Rattle.messaging.specs.declared.Unpadded.the-variants.{Text, Wrong}
-
--- 9.1.3: the CMAC cut to its even places
-unfoldable pub mac : List ℕ → List ℕ → List ℕ
-mac key text = evenPlaces (cmac (keyExpansion key) text)
+use Rattle.padding.specs.declared.Unpadded.{Unpadded}
+use Rattle.padding.specs.declared.Unpadded.the-variants.{Text, Wrong}
 
 -- 9.1.9: the MAC of a command covers Cmd, CmdCtr, TI, header and data, that of a reply the return code, CmdCtr, TI and data;
 -- CmdCtr low byte first
@@ -31,6 +27,12 @@ commandIv s = cipher (keyExpansion (s .enc)) (0xA5 ∷ 0x5A ∷ s .ti ++ low 2 (
 
 unfoldable pub replyIv : Session → List ℕ
 replyIv s = cipher (keyExpansion (s .enc)) (0x5A ∷ 0xA5 ∷ s .ti ++ low 2 (s .counter) ++ replicate 8 0)
+
+-- Table 69: the number of each mode in FileOption (crates/state/proofs/Modes.antt: file-mode-number)
+unfoldable pub modeNumber : Mode → ℕ
+modeNumber Plain = 0
+modeNumber Mac = 1
+modeNumber Full = 3
 
 -- how many bytes of MAC end a message
 abbrev pub macLength : Mode → ℕ

@@ -7,7 +7,7 @@ use lib.Dec.{eqb, leb, ltb}
 use lib.ListN.{length, take, drop}
 use Rattle.base.specs.Decide.{pick, and}
 use Rattle.base.specs.Bytes.{over}
-use Rattle.messaging.specs.Padding.{paddedLength}
+use Rattle.padding.specs.Padding.{paddedLength}
 use Rattle.messaging.specs.Protect.{replyIv, macLength, sent, signed, Opening, wrongLength, wrongMac, content, macRight}
 use Rattle.messaging.specs.declared.Session.{Session}
 use Rattle.messaging.specs.declared.Mode.{Mode}
@@ -55,11 +55,12 @@ pub record Closes (s : Session) (m : Mode) (code n : ℕ) (old : List ℕ) (r : 
   pub answer : r ≡ closing m n old
   pub room : new ≡ closedIn s m code n old
 
--- 01's status for each answer; a room that is too small is refused before any status (01's refusal 1)
+-- 01's status for each answer; a room that is too small is refused before any status (01's refusal 1) and has the house's
+-- number 1 (proofs/Answers.antt: closes-status)
 unfoldable pub closedStatus : Closed → ℕ
 closedStatus (Reply n) = 0x9100
 closedStatus Over = 0x917E
-closedStatus Small = 0
+closedStatus Small = 1
 
 -- a length that a reply of the mode can have
 unfoldable pub replyRight : Mode → ℕ → Bool

@@ -4,17 +4,16 @@ ghost use mathlib.Core.Bool.{true};
 ghost use Prim.Native.Nat.{_+_, _-_, _%_, _≤_};
 ghost use lib.ListN.{length, take, drop};
 ghost use Rattle.base.specs.Bytes.{same};
-ghost use Rattle.messaging.specs.Padding.{unpad, blocks};
+ghost use Rattle.padding.specs.Padding.{unpad, blocks};
 ghost use Rattle.messaging.specs.Protect.{messageMac, commandIv, macLength, content, textOf, plain};
 ghost use Rattle.messaging.specs.declared.Mode.the-variants.{Mac, Full};
-ghost use Rattle.messaging.specs.Command.{partRight, lengthRight, checked, opening, Gives, Opens};
+ghost use Rattle.messaging.specs.Command.{partRight, lengthRight, checked, opening, OpensInto, Opens};
 use crate::Mode;
 use crate::Opened;
 use crate::Session;
-use crate::Unpadded;
-use crate::padding::unpad;
 use crate::protect::command_vector;
 use crate::protect::message_mac;
+use padding::Unpadded;
 
 // How many bytes of MAC end a command.
 fn mac_length(m: Mode) -> usize
@@ -68,7 +67,7 @@ fn mac_right(s: Session, cmd: u8, x: &[u8]) -> bool
 // Plain data at the front of a room.
 fn give(part: &[u8], room: &mut [u8]) -> Opened
     requires { ⌜ length (now part) ≤ length (now room) ⌝ }
-    ensures { λ r. ⌜ Gives (plain (now (part .entry))) (now (room .entry)) r (now (room .exit)) ⌝ }
+    ensures { λ r. ⌜ OpensInto (plain (now (part .entry))) (now (room .entry)) r (now (room .exit)) ⌝ }
 {
     base::put(part, room, 0);
     Opened::Data(part.len())
@@ -77,9 +76,9 @@ fn give(part: &[u8], room: &mut [u8]) -> Opened
 // A padded text without its padding at the front of a room.
 fn give_text(s: &[u8], room: &mut [u8]) -> Opened
     requires { ⌜ length (now s) ≤ length (now room) ⌝ }
-    ensures { λ r. ⌜ Gives (textOf (now (s .entry)) (unpad (now (s .entry)))) (now (room .entry)) r (now (room .exit)) ⌝ }
+    ensures { λ r. ⌜ OpensInto (textOf (now (s .entry)) (unpad (now (s .entry)))) (now (room .entry)) r (now (room .exit)) ⌝ }
 {
-    match unpad(s) {
+    match padding::unpad(s) {
         Unpadded::Text(n) => give(&s[..n], room),
         Unpadded::Wrong => Opened::WrongPadding,
     }
@@ -88,10 +87,10 @@ fn give_text(s: &[u8], room: &mut [u8]) -> Opened
 // The text of an encrypted part, decrypted in place, at the front of a room.
 fn give_opened(s: Session, part: &mut [u8], room: &mut [u8]) -> Opened
     requires { ⌜ (length (now part) ≤ length (now room)) × (length (now part) % 16 ≡ 0) ⌝ }
-    ensures { λ r. ⌜ Gives (content Full s (commandIv s) true (now (part .entry))) (now (room .entry)) r (now (room .exit)) ⌝ }
+    ensures { λ r. ⌜ OpensInto (content Full s (commandIv s) true (now (part .entry))) (now (room .entry)) r (now (room .exit)) ⌝ }
 {
     let key = s.enc;
-    let w = aes::expand(key);
+    let w = key_expansion::expand(key);
     let iv = command_vector(&w, s);
     aes::cbc_decrypt(&w, iv, part);
     give_text(part, room)
@@ -100,7 +99,7 @@ fn give_opened(s: Session, part: &mut [u8], room: &mut [u8]) -> Opened
 // The text of an encrypted part at the front of a room.
 fn give_hidden(s: Session, part: &[u8], room: &mut [u8]) -> Opened
     requires { ⌜ (length (now part) ≤ 255) × (length (now part) ≤ length (now room)) × (blocks (length (now part)) ≡ true) ⌝ }
-    ensures { λ r. ⌜ Gives (content Full s (commandIv s) true (now (part .entry))) (now (room .entry)) r (now (room .exit)) ⌝ }
+    ensures { λ r. ⌜ OpensInto (content Full s (commandIv s) true (now (part .entry))) (now (room .entry)) r (now (room .exit)) ⌝ }
 {
     let mut b = [0u8; 256];
     base::put(part, &mut b, 0);
@@ -111,7 +110,7 @@ fn give_hidden(s: Session, part: &[u8], room: &mut [u8]) -> Opened
 // Opens a command in MAC, of the right length.
 fn open_mac(s: Session, cmd: u8, x: &[u8], h: usize, room: &mut [u8]) -> Opened
     requires { ⌜ (h + 8 ≤ length (now x)) × (length (now x) ≤ 255) × (length (now x) ≤ length (now room)) ⌝ }
-    ensures { λ r. ⌜ Gives (checked Mac s cmd (now (x .entry)) h true) (now (room .entry)) r (now (room .exit)) ⌝ }
+    ensures { λ r. ⌜ OpensInto (checked Mac s cmd (now (x .entry)) h true) (now (room .entry)) r (now (room .exit)) ⌝ }
 {
     let e = x.len() - 8;
     if mac_right(s, cmd, x) {
@@ -124,7 +123,7 @@ fn open_mac(s: Session, cmd: u8, x: &[u8], h: usize, room: &mut [u8]) -> Opened
 fn open_full(s: Session, cmd: u8, x: &[u8], h: usize, there: bool, room: &mut [u8]) -> Opened
     requires { ⌜ (h + 8 ≤ length (now x)) × (length (now x) ≤ 255) × (length (now x) ≤ length (now room)) ⌝ }
     requires { ⌜ partRight Full there (length (now x) - 8 - h) ≡ true ⌝ }
-    ensures { λ r. ⌜ Gives (checked Full s cmd (now (x .entry)) h there) (now (room .entry)) r (now (room .exit)) ⌝ }
+    ensures { λ r. ⌜ OpensInto (checked Full s cmd (now (x .entry)) h there) (now (room .entry)) r (now (room .exit)) ⌝ }
 {
     let e = x.len() - 8;
     if mac_right(s, cmd, x) {

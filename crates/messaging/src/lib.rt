@@ -1,31 +1,13 @@
-// Secure messaging (9.1), authentication (10.4) and the keys of a tap (9.3), over the promises of `aes`.
-mod authentication;
+// Secure messaging (9.1) over the promises of `aes` and `padding`: vectors and MACs, commands opened, replies closed.
 mod command;
-mod crc;
-mod derivation;
-mod padding;
 mod protect;
 mod reply;
-mod taps;
 
-pub use authentication::check_part_two;
-pub use authentication::first_reply;
-pub use authentication::next_reply;
-pub use authentication::part_one;
 pub use command::open;
-pub use crc::crc_of;
-pub use derivation::session_keys;
-pub use padding::pad;
-pub use padding::unpad;
 pub use protect::command_iv;
 pub use protect::reply_iv;
 pub use reply::close;
 pub use reply::too_long;
-pub use taps::picc_data;
-pub use taps::tap_encrypt;
-pub use taps::tap_iv;
-pub use taps::tap_keys;
-pub use taps::tap_mac;
 
 // How a command and its reply are protected.
 pub enum Mode {
@@ -34,33 +16,12 @@ pub enum Mode {
     Full,
 }
 
-// The keys of a session, or of a tap.
-pub struct Keys {
-    pub enc: [u8; 16],
-    pub mac: [u8; 16],
-}
-
 // What protects a message: the session's keys, TI and CmdCtr.
 pub struct Session {
     pub enc: [u8; 16],
     pub mac: [u8; 16],
     pub ti: [u8; 4],
     pub counter: u16,
-}
-
-// What a padded text was.
-pub enum Unpadded {
-    // Its first bytes, this many.
-    Text(usize),
-    Wrong,
-}
-
-// What padding in a lent room came to.
-pub enum Padded {
-    // The text is padded, and this long.
-    Whole(usize),
-    // The room is too small.
-    NoPlace,
 }
 
 // What opening a command came to.
@@ -87,27 +48,4 @@ pub enum Closed {
     Over,
     // The room is too small.
     Small,
-}
-
-// What the check of part two came to.
-pub enum Proof {
-    Right,
-    // 917E.
-    NotThirtyTwo,
-    // 91AE.
-    WrongRndB,
-}
-
-// That, and RndA where it is right.
-pub struct PartTwo {
-    pub proof: Proof,
-    pub a: [u8; 16],
-}
-
-// A tap: its UID and its counter, and whether they are mirrored.
-pub struct Tap {
-    pub uid: [u8; 7],
-    pub counter: u32,
-    pub names: bool,
-    pub counts: bool,
 }

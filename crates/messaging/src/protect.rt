@@ -5,8 +5,9 @@ ghost use Prim.Native.Nat.{_≤_};
 ghost use lib.ListN.{length, replicate};
 ghost use Rattle.base.specs.Bytes.{low};
 ghost use Rattle.aes.specs.Block.{cipher};
-ghost use Rattle.aes.specs.Keys.{keyExpansion};
-ghost use Rattle.messaging.specs.Protect.{mac, messageMac, commandIv, replyIv};
+ghost use Rattle.key_expansion.specs.Keys.{keyExpansion};
+ghost use Rattle.messaging.specs.Protect.{messageMac, commandIv, replyIv};
+ghost use Rattle.aes.specs.Cmac.{mac};
 use crate::Session;
 
 // The eight bytes over a first byte, CmdCtr, TI and a body.
@@ -21,7 +22,7 @@ fn mac_over(key: [u8; 16], first: u8, counter: u16, ti: [u8; 4], body: &[u8]) ->
     base::put(&ti, &mut b, 3);
     base::put(body, &mut b, 7);
     let e = 7 + body.len();
-    let w = aes::expand(key);
+    let w = key_expansion::expand(key);
     aes::mac_of(&w, &b[..e])
 }
 
@@ -85,7 +86,7 @@ pub fn command_iv(s: Session) -> [u8; 16]
     ensures { λ r. ⌜ r ≡ commandIv s ⌝ }
 {
     let key = s.enc;
-    let w = aes::expand(key);
+    let w = key_expansion::expand(key);
     command_vector(&w, s)
 }
 
@@ -94,6 +95,6 @@ pub fn reply_iv(s: Session) -> [u8; 16]
     ensures { λ r. ⌜ r ≡ replyIv s ⌝ }
 {
     let key = s.enc;
-    let w = aes::expand(key);
+    let w = key_expansion::expand(key);
     reply_vector(&w, s)
 }

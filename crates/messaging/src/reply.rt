@@ -10,7 +10,6 @@ ghost use Rattle.messaging.specs.Reply.{filled, hiddenLength, closedLeng
 use crate::Closed;
 use crate::Mode;
 use crate::Session;
-use crate::padding::pad;
 use crate::protect::message_mac;
 use crate::protect::reply_vector;
 
@@ -49,10 +48,10 @@ fn hide(s: Session, room: &mut [u8], n: usize) -> usize
     if n == 0 {
         return 0;
     }
-    pad(room, n);
+    padding::pad(room, n);
     let e = n / 16 * 16 + 16;
     let key = s.enc;
-    let w = aes::expand(key);
+    let w = key_expansion::expand(key);
     let iv = reply_vector(&w, s);
     aes::cbc_encrypt(&w, iv, &mut room[..e]);
     e

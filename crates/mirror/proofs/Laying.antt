@@ -15,7 +15,7 @@ use Rattle.aes.specs.Cbc.{across, sealed, cbcOut}
 use Rattle.settings.specs.declared.Span.{Span}
 use Rattle.settings.specs.declared.Reading.{Reading}
 use Rattle.mirror.specs.declared.Mirror.{Mirror}
-use Rattle.mirror.specs.Mirrors.{mirrorAt, part, withEnc, withMac}
+use Rattle.mirror.specs.Mirrors.{mirrorAt, stretch, withEnc, withMac}
 
 -- ---- digits
 pub chars-length : (s : List ℕ) → length (charsOf s) ≡ length s * 2
@@ -73,17 +73,17 @@ cbc-front w v s =
     ∙ across-front (sealed w) (sealed w) (length s / 16) v s (omega arith)
 
 pub enc-blocks : (w : List (List ℕ)) (v : List ℕ) (a n : ℕ) (file : List ℕ) → a + n ≤ length file
-    → cbcOut w v (part a (a + n / 16 * 16) file) ≡ cbcOut w v (part a (a + n) file)
+    → cbcOut w v (stretch a (a + n / 16 * 16) file) ≡ cbcOut w v (stretch a (a + n) file)
 enc-blocks w v a n file h =
-    let l : length (part a (a + n) file) ≡ a + n - a = length-take-le (a + n - a) (drop a file) (omega (arith, length-drop a file)) in
-    let e : a + n / 16 * 16 - a ≡ length (part a (a + n) file) / 16 * 16 = omega arith in
+    let l : length (stretch a (a + n) file) ≡ a + n - a = length-take-le (a + n - a) (drop a file) (omega (arith, length-drop a file)) in
+    let e : a + n / 16 * 16 - a ≡ length (stretch a (a + n) file) / 16 * 16 = omega arith in
     ap (λ k. cbcOut w v (take k (drop a file))) e
-    ∙ ap (λ x. cbcOut w v x) (sym (take-take (length (part a (a + n) file) / 16 * 16) (a + n - a) (drop a file) (omega arith)))
-    ∙ cbc-front w v (part a (a + n) file)
+    ∙ ap (λ x. cbcOut w v x) (sym (take-take (length (stretch a (a + n) file) / 16 * 16) (a + n - a) (drop a file) (omega arith)))
+    ∙ cbc-front w v (stretch a (a + n) file)
 
 -- ---- MAC: of a start behind the end nothing is covered
-pub no-part : (a e : ℕ) (file : List ℕ) → e ≤ a → part a e file ≡ []
-no-part a e file h = let z : e - a ≡ 0 = omega arith in ap (λ n. take n (drop a file)) z
+pub no-stretch : (a e : ℕ) (file : List ℕ) → e ≤ a → stretch a e file ≡ []
+no-stretch a e file h = let z : e - a ≡ 0 = omega arith in ap (λ n. take n (drop a file)) z
 
 -- ---- where neither is present
 neither : (a b : Bool) → or a b ≡ false → (a ≡ false) × (b ≡ false)

@@ -7,9 +7,9 @@ use Rattle.base.specs.Decide.{pick, and}
 use Rattle.base.specs.Bytes.{laid}
 use Rattle.lines.specs.Hex.{charsOf}
 use Rattle.aes.specs.Cbc.{cbcOut}
-use Rattle.aes.specs.Keys.{keyExpansion}
-use Rattle.messaging.specs.Protect.{mac}
-use Rattle.messaging.specs.Tap.{piccData, tapKeys, tapIv}
+use Rattle.key_expansion.specs.Keys.{keyExpansion}
+use Rattle.aes.specs.Cmac.{mac}
+use Rattle.sdm.specs.Tap.{piccData, tapKeys, tapIv}
 use Rattle.settings.specs.Spans.{inside}
 use Rattle.settings.specs.declared.Span.{Span}
 use Rattle.settings.specs.declared.Reading.{Reading}
@@ -21,8 +21,8 @@ unfoldable pub mirrorAt : Span → List ℕ → List ℕ → List ℕ
 mirrorAt s bytes file = pick (s .present) (laid (charsOf bytes) (s .start) file) file
 
 -- the bytes of a file from one place to before another
-abbrev pub part : ℕ → ℕ → List ℕ → List ℕ
-part a e file = take (e - a) (drop a file)
+abbrev pub stretch : ℕ → ℕ → List ℕ → List ℕ
+stretch a e file = take (e - a) (drop a file)
 
 -- 9.3.1: as plain text SDMReadCtr stands high byte first
 unfoldable pub highFirst : ℕ → List ℕ
@@ -42,7 +42,7 @@ withPicc r m file = mirrorAt (r .picc) (piccData (m .«meta_key») (m .tap) (m .
 -- 9.3.6: SDMENCFileData: the first half of its span of StaticFileData, the file as stored; CBC, under SesSDMFileReadENCKey
 unfoldable pub encData : List ℕ → ℕ → Span → List ℕ → List ℕ
 encData key counter s static =
-    cbcOut (keyExpansion key) (tapIv key counter) (part (s .start) (s .start + s .size / 2) static)
+    cbcOut (keyExpansion key) (tapIv key counter) (stretch (s .start) (s .start + s .size / 2) static)
 
 unfoldable pub withEnc : Reading → Mirror → List ℕ → List ℕ → List ℕ
 withEnc r m static file =
@@ -51,7 +51,7 @@ withEnc r m static file =
 -- 9.3.8: SDMMAC of DynamicFileData, the mirrored file, from SDMMACInputOffset to before the MAC; under SesSDMFileReadMACKey
 unfoldable pub withMac : Reading → Mirror → List ℕ → List ℕ
 withMac r m dynamic =
-    mirrorAt (r .mac) (mac (tapKeys (m .«file_key») (m .tap) .mac) (part (r .settings .places .input) (r .mac .start) dynamic)) dynamic
+    mirrorAt (r .mac) (mac (tapKeys (m .«file_key») (m .tap) .mac) (stretch (r .settings .places .input) (r .mac .start) dynamic)) dynamic
 
 -- the file as a tap shows it: every mirror, the MAC over all others
 unfoldable pub dynamicData : List ℕ → Reading → Mirror → List ℕ

@@ -5,12 +5,12 @@ ghost use Prim.Native.Nat.{_%_, _≤_};
 ghost use lib.ListN.{length};
 ghost use Rattle.base.specs.Decide.{and, or};
 ghost use Rattle.aes.specs.Cbc.{cbcOut};
-ghost use Rattle.aes.specs.Keys.{keyExpansion};
-ghost use Rattle.messaging.specs.Protect.{mac};
-ghost use Rattle.messaging.specs.Tap.{tapIv};
+ghost use Rattle.key_expansion.specs.Keys.{keyExpansion};
+ghost use Rattle.aes.specs.Cmac.{mac};
+ghost use Rattle.sdm.specs.Tap.{tapIv};
 ghost use Rattle.settings.specs.Spans.{endOf, inside};
-ghost use Rattle.mirror.specs.Mirrors.{mirrorAt, part, highFirst, withUid, withCounter, withPicc, encData, withEnc, withMac, dynamicData, allInside, laidOf};
-use messaging::Tap;
+ghost use Rattle.mirror.specs.Mirrors.{mirrorAt, stretch, highFirst, withUid, withCounter, withPicc, encData, withEnc, withMac, dynamicData, allInside, laidOf};
+use sdm::Tap;
 use settings::Reading;
 use settings::Span;
 
@@ -112,7 +112,7 @@ fn lay_picc(file: [u8; 256], r: Reading, m: Mirror) -> [u8; 256]
     if r.picc.present {
         let key = m.meta_key;
         let random = m.random;
-        let p = messaging::picc_data(key, m.tap, random);
+        let p = sdm::picc_data(key, m.tap, random);
         return lay_hex(g, r.picc, &p);
     }
     g
@@ -123,7 +123,7 @@ fn lay_hidden(file: [u8; 256], s: Span, key: [u8; 16], counter: u32, text: &mut 
     requires { ⌜ length (now text) % 16 ≡ 0 ⌝ }
     ensures { λ r. ⌜ r ≡ mirrorAt s (cbcOut (keyExpansion key) (tapIv key counter) (now (text .entry))) file ⌝ }
 {
-    messaging::tap_encrypt(key, counter, text);
+    sdm::tap_encrypt(key, counter, text);
     lay_hex(file, s, text)
 }
 
@@ -144,18 +144,18 @@ fn lay_enc(stored: [u8; 256], file: [u8; 256], s: Span, key: [u8; 16], counter: 
 // The MAC of the file from a to before e, of nothing where a lies behind e.
 fn mac_between(file: [u8; 256], a: usize, e: usize, key: [u8; 16]) -> [u8; 8]
     requires { ⌜ e ≤ 256 ⌝ }
-    ensures { λ r. ⌜ r ≡ mac key (part a e file) ⌝ }
+    ensures { λ r. ⌜ r ≡ mac key (stretch a e file) ⌝ }
 {
     if a <= e {
-        return messaging::tap_mac(key, &file[a..e]);
+        return sdm::tap_mac(key, &file[a..e]);
     }
-    messaging::tap_mac(key, &file[e..e])
+    sdm::tap_mac(key, &file[e..e])
 }
 
 // The MAC of the mirrored text from an input start to before the MAC.
 fn lay_mac(file: [u8; 256], s: Span, input: u32, key: [u8; 16]) -> [u8; 256]
     requires { ⌜ endOf s ≤ 256 ⌝ }
-    ensures { λ r. ⌜ r ≡ mirrorAt s (mac key (part input (s .start) file)) file ⌝ }
+    ensures { λ r. ⌜ r ≡ mirrorAt s (mac key (stretch input (s .start) file)) file ⌝ }
 {
     if s.present {
         let t = mac_between(file, input as usize, s.start as usize, key);
@@ -171,7 +171,7 @@ fn lay_keyed(stored: [u8; 256], file: [u8; 256], r: Reading, m: Mirror) -> [u8; 
     ensures { λ f. ⌜ f ≡ withMac r m (withEnc r m stored file) ⌝ }
 {
     let key = m.file_key;
-    let k = messaging::tap_keys(key, m.tap);
+    let k = sdm::tap_keys(key, m.tap);
     let enc = k.enc;
     let mac = k.mac;
     let g = lay_enc(stored, file, r.enc, enc, m.tap.counter);

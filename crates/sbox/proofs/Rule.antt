@@ -12,14 +12,14 @@ use borrow.Author.Tests.{ne-eqb}
 use native.Mathlib.Omega.{arith}
 use Rattle.base.specs.Bytes.{byteAt, AllBytes}
 use Rattle.base.proofs.Bytes.{le-or-lt}
-use Rattle.sbox.specs.Field.{xtime, mul, squares, inverse, bit, affineBit, fromBits, affine, substituted}
+use Rattle.sbox.specs.Field.{xtime, mul, squares, inverse, bitOf, affineBit, fromBits, affine, substituted}
 use Rattle.sbox.specs.Tables.{sbox, invSbox}
 use Rattle.sbox.proofs.Power.{inverse-only}
 use Rattle.sbox.proofs.Table.{every, entries, and-left, and-right}
 
 -- the affine step undone: bit i is the sum of bits i + 2, i + 5, i + 7 (modulo 8) and bit i of 05
 unaffineBit : ℕ → ℕ → ℕ
-unaffineBit b i = (bit ((i + 2) % 8) b + bit ((i + 5) % 8) b + bit ((i + 7) % 8) b + bit i 5) % 2
+unaffineBit b i = (bitOf ((i + 2) % 8) b + bitOf ((i + 5) % 8) b + bitOf ((i + 7) % 8) b + bitOf i 5) % 2
 
 unaffine : ℕ → ℕ
 unaffine b = fromBits 8 (unaffineBit b)

@@ -30,12 +30,12 @@ unfoldable pub inverse : ℕ → ℕ
 inverse b = squares 7 b
 
 -- bit i of a byte
-abbrev pub bit : ℕ → ℕ → ℕ
-bit i b = b / 2 ^ i % 2
+abbrev pub bitOf : ℕ → ℕ → ℕ
+bitOf i b = b / 2 ^ i % 2
 
 -- 5.1.1, (5.1): bit i of the affine step is the sum of bits i, i + 4, i + 5, i + 6, i + 7 (modulo 8) and bit i of 63
 unfoldable pub affineBit : ℕ → ℕ → ℕ
-affineBit b i = (bit i b + bit ((i + 4) % 8) b + bit ((i + 5) % 8) b + bit ((i + 6) % 8) b + bit ((i + 7) % 8) b + bit i 0x63) % 2
+affineBit b i = (bitOf i b + bitOf ((i + 4) % 8) b + bitOf ((i + 5) % 8) b + bitOf ((i + 6) % 8) b + bitOf ((i + 7) % 8) b + bitOf i 0x63) % 2
 
 -- the number whose n low bits are f's
 unfoldable pub fromBits : ℕ → (ℕ → ℕ) → ℕ

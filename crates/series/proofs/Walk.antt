@@ -12,10 +12,10 @@ use Rattle.base.specs.Bytes.{byteAt, same}
 use Rattle.base.proofs.Bytes.{and-left, and-right}
 use Rattle.messaging.specs.declared.Mode.{Mode}
 use Rattle.messaging.specs.declared.Mode.the-variants.{Full}
-use Rattle.messaging.specs.declared.Proof.{Proof}
-use Rattle.messaging.specs.declared.Proof.the-variants.{Right, NotThirtyTwo, WrongRndB}
+use Rattle.authentication.specs.declared.Proof.{Proof}
+use Rattle.authentication.specs.declared.Proof.the-variants.{Right, NotThirtyTwo, WrongRndB}
 use Rattle.messaging.specs.declared.Opened.the-variants.{WrongLength, WrongMac, WrongPadding}
-use Rattle.messaging.specs.Authentication.{judged as proved, proofStatus, deciphered}
+use Rattle.authentication.specs.Authentication.{proofOf, proofStatus, deciphered}
 use Rattle.messaging.specs.Protect.{Opening, plain, wrongLength, wrongMac, wrongPadding}
 use Rattle.messaging.specs.Command.{openedStatus}
 use Rattle.settings.specs.declared.Verdict.{Verdict}
@@ -167,7 +167,7 @@ module _ (t : Tag) (c random : List ℕ) (P : Answer → Type 0) (k : Kinds t c 
   unfolding partTwoAnswer
   second-kind x p =
       let kx = keyIn (t .secrets .keys) (t .pending .key) in
-      proof-kind p kx x (proved kx (t .pending .«rnd_b») x)
+      proof-kind p kx x (proofOf kx (t .pending .«rnd_b») x)
 
   key-kind : (n : ℕ) (p : List ℕ) → P (changedKey t n p)
   unfolding changedKey

@@ -1,2 +1,3 @@
+pub mod Modes
 pub mod Strings
 pub mod Truth

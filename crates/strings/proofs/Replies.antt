@@ -10,7 +10,7 @@ use Rattle.base.specs.Bytes.{byteAt, laid, low, over}
 use Rattle.base.proofs.Bytes.{le-or-lt, laid-front}
 use Rattle.base.proofs.Numbers.{low-length}
 use Rattle.messaging.specs.declared.Mode.{Mode}
-use Rattle.messaging.proofs.Pieces.{also, fronted}
+use Rattle.base.proofs.Pieces.{also, fronted}
 use Rattle.state.specs.declared.Files.{Files}
 use Rattle.state.specs.declared.Tag.{Tag}
 use Rattle.state.specs.State.{slotOf, sizeOf, rulesOf}

@@ -11,7 +11,7 @@ use borrow.Author.Tests.{le-leb, lt-leb, lt-ltb, le-ltb, eq-eqb, ne-eqb, eqb-tru
 use Rattle.base.specs.Decide.{pick, or}
 use Rattle.base.specs.Bytes.{byteAt, laid, over}
 use Rattle.base.proofs.Bytes.{le-or-lt, and-right, none}
-use Rattle.messaging.proofs.Pieces.{also}
+use Rattle.base.proofs.Pieces.{also}
 use Rattle.state.specs.declared.Birth.{Birth}
 use Rattle.state.specs.declared.Made.the-variants.{Fresh, WrongUid}
 use Rattle.state.specs.declared.Tag.{Tag}

@@ -131,8 +131,8 @@ fn opened_status(o: Opened) -> u16
         Opened::WrongLength => 0x917E,
         Opened::WrongMac => 0x911E,
         Opened::WrongPadding => 0x911E,
-        Opened::TooLong => 0x917E,
-        Opened::NoRoom => 0,
+        Opened::TooLong => 1,
+        Opened::NoRoom => 2,
     }
 }
 

@@ -1,5 +1,5 @@
 use mathlib.Core.Path.{refl}
-use Rattle.messaging.specs.Keys.{sessionKeys}
+use Rattle.session_keys.specs.Keys.{sessionKeys}
 use Rattle.auth.specs.Parts.{sessionFrom}
 use borrow.Author.Needs.{needs}
 use Rattle.auth.proofs.session.Statement.{statement}

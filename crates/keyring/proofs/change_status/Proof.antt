@@ -9,7 +9,7 @@ use lib.Seq.{take-all}
 use borrow.Author.Tests.{eq-eqb, ne-eqb}
 use Rattle.base.specs.Bytes.{same}
 use Rattle.base.proofs.Bytes.{tests}
-use Rattle.messaging.specs.Crc.{crc}
+use Rattle.crc.specs.Crc.{crc}
 use Rattle.keyring.specs.Keyring.{changeStatus}
 use borrow.Author.Needs.{needs}
 use Rattle.keyring.proofs.change_status.Statement.{statement}

@@ -3,9 +3,9 @@ use native.Mathlib.Omega.{arith}
 use Prim.Native.Nat.{_+_, _*_, _/_}
 use lib.ListN.{length}
 use Rattle.aes.specs.Cbc.{cbcOut}
-use Rattle.aes.specs.Keys.{keyExpansion}
-use Rattle.messaging.specs.Tap.{tapIv}
-use Rattle.mirror.specs.Mirrors.{mirrorAt, part, encData}
+use Rattle.key_expansion.specs.Keys.{keyExpansion}
+use Rattle.sdm.specs.Tap.{tapIv}
+use Rattle.mirror.specs.Mirrors.{mirrorAt, stretch, encData}
 use Rattle.mirror.proofs.Laying.{enc-blocks, mirror-by}
 use borrow.Author.Needs.{needs}
 use Rattle.mirror.proofs.lay_enc.Statement.{statement}
@@ -44,7 +44,7 @@ returns c =
     let l : length (a .stored) ≡ 256 = search needs in
     let e : a .s .size / 32 * 16 ≡ a .s .size / 2 / 16 * 16 = omega arith in
     c .before .lay-hidden .ensures
-    ∙ ap (λ n. mirrorAt (a .s) (cbcOut w v (part (a .s .start) (a .s .start + n) (a .stored))) (a .file)) e
+    ∙ ap (λ n. mirrorAt (a .s) (cbcOut w v (stretch (a .s .start) (a .s .start + n) (a .stored))) (a .file)) e
     ∙ ap (λ t. mirrorAt (a .s) t (a .file)) (enc-blocks w v (a .s .start) (a .s .size / 2) (a .stored) (omega (arith, c .before .before .before .before .before .before .pre)))
 
 returns-2 : tie.Need-returns-2

@@ -38,10 +38,13 @@ put-requires c κs = search needs
 
 returns : tie.Need-returns
 returns c =
-    let a = c .before .before .before .before .before .before .before .before .before .before .before .args in
-    let d = c .before .before .before .before .before .encode in
+    let c5 = c .before .before .before .before .before in
+    let c9 = c5 .before .before .before .before in
+    let c11 = c9 .before .before in
+    let a = c11 .args in
+    let d = c5 .encode in
     let p = c .before .put in
-    mirror-put (a .s) (a .text .now) (replicate 256 0) (d .last .1 .0) (a .file) (p .last .1 .0) (c .before .before .before .before .before .before .before .before .before .if1 .taken) (omega arith) (d .ensures) (p .ensures)
+    mirror-put (a .s) (a .text .now) (replicate 256 0) (d .last .1 .0) (a .file) (p .last .1 .0) (c9 .if1 .taken) (omega arith) (d .ensures) (p .ensures)
 
 returns-2 : tie.Need-returns-2
 returns-2 c =

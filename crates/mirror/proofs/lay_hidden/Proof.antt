@@ -4,8 +4,8 @@ use lib.ListN.{length}
 use borrow.Author.Tests.{eq-eqb}
 use Rattle.base.specs.Decide.{pick}
 use Rattle.aes.specs.Cbc.{cbcOut}
-use Rattle.aes.specs.Keys.{keyExpansion}
-use Rattle.messaging.specs.Tap.{tapIv}
+use Rattle.key_expansion.specs.Keys.{keyExpansion}
+use Rattle.sdm.specs.Tap.{tapIv}
 use Rattle.mirror.specs.Mirrors.{mirrorAt}
 use borrow.Author.Needs.{needs}
 use Rattle.mirror.proofs.lay_hidden.Statement.{statement}

@@ -1,6 +1,6 @@
 use mathlib.Core.Path.{ap, ap₂, _∙_}
-use Rattle.messaging.specs.Protect.{mac}
-use Rattle.mirror.specs.Mirrors.{mirrorAt, part, encData, withEnc, withMac}
+use Rattle.aes.specs.Cmac.{mac}
+use Rattle.mirror.specs.Mirrors.{mirrorAt, stretch, encData, withEnc, withMac}
 use borrow.Author.Needs.{needs}
 use Rattle.mirror.proofs.lay_keyed.Statement.{statement}
 use Rattle.mirror.proofs.lay_keyed.Tie as tie
@@ -20,7 +20,7 @@ returns c =
     let a = c .before .before .before .before .before .before .args in
     let k = c .before .before .before .before .tap-keys .ensures in
     c .lay-mac .ensures
-    ∙ ap₂ (λ x f. mirrorAt (a .r .mac) (mac x (part (a .r .settings .places .input) (a .r .mac .start) f)) f) (ap (λ x. x .mac) k)
+    ∙ ap₂ (λ x f. mirrorAt (a .r .mac) (mac x (stretch (a .r .settings .places .input) (a .r .mac .start) f)) f) (ap (λ x. x .mac) k)
     (c .before .lay-enc .ensures
     ∙ ap (λ x. mirrorAt (a .r .enc) (encData (x .enc) (a .m .tap .counter) (a .r .enc) (a .stored)) (a .file)) k)
 

@@ -32,10 +32,13 @@ lay-hex-requires-3 c κs = search needs
 returns : tie.Need-returns
 unfolding withUid withCounter withPicc
 returns c =
-    let a = c .before .before .before .before .before .before .before .before .before .before .before .before .args in
-    c .lay-hex3 .ensures
-    ∙ ap₂ (mirrorAt (a .r .picc)) (c .before .before .picc-data .ensures)
-    (c .before .before .before .before .before .before .lay-hex2 .ensures ∙ ap₂ (mirrorAt (a .r .counter)) (c .before .before .before .before .before .before .before .before .high-first .ensures) (c .before .before .before .before .before .before .before .before .before .lay-hex .ensures))
+    let c6 = c .before .before .before .before .before .before in
+    let c8 = c6 .before .before in
+    let c9 = c8 .before in
+    let c12 = c9 .before .before .before in
+    let a = c12 .args in
+    c .lay-hex3 .ensures ∙ ap₂ (mirrorAt (a .r .picc)) (c .before .before .picc-data .ensures)
+    (c6 .lay-hex2 .ensures ∙ ap₂ (mirrorAt (a .r .counter)) (c8 .high-first .ensures) (c9 .lay-hex .ensures))
 
 returns-2 : tie.Need-returns-2
 unfolding withUid withCounter withPicc

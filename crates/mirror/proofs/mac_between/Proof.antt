@@ -1,7 +1,7 @@
 use mathlib.Core.Path.{ap, sym, _∙_}
 use native.Mathlib.Omega.{arith}
-use Rattle.messaging.specs.Protect.{mac}
-use Rattle.mirror.proofs.Laying.{no-part}
+use Rattle.aes.specs.Cmac.{mac}
+use Rattle.mirror.proofs.Laying.{no-stretch}
 use borrow.Author.Needs.{needs}
 use Rattle.mirror.proofs.mac_between.Statement.{statement}
 use Rattle.mirror.proofs.mac_between.Tie as tie
@@ -34,7 +34,7 @@ returns-2 : tie.Need-returns-2
 returns-2 c =
     let a = c .before .before .before .before .args in
     c .tap-mac2 .ensures
-    ∙ ap (mac (a .key)) (no-part (a .e) (a .e) (a .t1) (omega arith) ∙ sym (no-part (a .a) (a .e) (a .t1) (omega arith)))
+    ∙ ap (mac (a .key)) (no-stretch (a .e) (a .e) (a .t1) (omega arith) ∙ sym (no-stretch (a .a) (a .e) (a .t1) (omega arith)))
 
 pub mac-between-spec : {M : Type 1} → statement M
 mac-between-spec =

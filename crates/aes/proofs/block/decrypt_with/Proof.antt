@@ -4,7 +4,7 @@ use mathlib.Core.Path.{_≡_, refl, sym, ap, _∙_}
 use Prim.Native.Nat.{_-_, _≤_}
 use native.Mathlib.Omega.{arith}
 use Rattle.aes.specs.Block.{roundsBack, invCipher}
-use Rattle.aes.specs.Words.{blockOf}
+use Rattle.words.specs.Words.{blockOf}
 use borrow.Author.Needs.{needs}
 use Rattle.aes.proofs.block.decrypt_with.Statement.{statement}
 use Rattle.aes.proofs.block.decrypt_with.Tie as tie
@@ -43,7 +43,13 @@ loop-less : tie.Need-loop-less Inv-loop μ-loop
 loop-less c = search needs
 
 loop-again : tie.Need-loop-again Inv-loop μ-loop
-loop-again c = (omega arith, ap (roundsBack _ _) (c .round-back .ensures) ∙ sym (back-more (c .before .before .before .before .before .before .before .args .w .now) (c .before .before .before .loop .i) (blockOf (c .before .before .before .loop .x)) (c .before .before .loop-test .taken)) ∙ c .before .before .before .loop .inv .1)
+loop-again c =
+    let c3 = c .before .before .before in
+    let c7 = c3 .before .before .before .before in (
+      omega arith,
+      ap (roundsBack _ _) (c .round-back .ensures)
+          ∙ sym (back-more (c7 .args .w .now) (c3 .loop .i) (blockOf (c3 .loop .x)) (c .before .before .loop-test .taken)) ∙ c3 .loop .inv .1,
+    )
 
 element-copy-out-first : tie.Need-element-copy-out-first Inv-loop μ-loop
 element-copy-out-first c = search needs
@@ -59,7 +65,16 @@ bytes-of-requires c κs = search needs
 
 returns : tie.Need-returns Inv-loop μ-loop
 unfolding invCipher
-returns c = let n : 0 ≡ c .before .before .before .before .before .loop .i = omega arith in let w = c .before .before .before .before .before .before .before .before .before .args .w .now in let e : blockOf (c .before .before .before .before .before .loop .x) ≡ roundsBack w 9 (blockOf (c .before .before .before .before .before .before .with-key .result)) = sym (back-none w (blockOf (c .before .before .before .before .before .loop .x))) ∙ ap (λ m. roundsBack w m (blockOf (c .before .before .before .before .before .loop .x))) n ∙ c .before .before .before .before .before .loop .inv .1 in c .bytes-of .ensures ∙ c .before .with-key2 .ensures ∙ rw (c .before .before .shift-sub .ensures, e, c .before .before .before .before .before .before .with-key .ensures, c .before .before .before .before .before .before .before .columns .ensures) refl
+returns c =
+    let c5 = c .before .before .before .before .before in
+    let c6 = c5 .before in
+    let c7 = c6 .before in
+    let c9 = c7 .before .before in
+    let n : 0 ≡ c5 .loop .i = omega arith in
+    let w = c9 .args .w .now in
+    let e : blockOf (c5 .loop .x) ≡ roundsBack w 9 (blockOf (c6 .with-key .result)) = sym (back-none w (blockOf (c5 .loop .x)))
+    ∙ ap (λ m. roundsBack w m (blockOf (c5 .loop .x))) n ∙ c5 .loop .inv .1 in
+    c .bytes-of .ensures ∙ c .before .with-key2 .ensures ∙ rw (c .before .before .shift-sub .ensures, e, c6 .with-key .ensures, c7 .columns .ensures .1) refl
 
 pub decrypt-with-spec : {M : Type 1} → statement M
 decrypt-with-spec =

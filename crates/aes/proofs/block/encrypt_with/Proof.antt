@@ -4,7 +4,7 @@ use mathlib.Core.Path.{_≡_, refl, sym, _∙_}
 use Prim.Native.Nat.{_-_, _≤_}
 use native.Mathlib.Omega.{arith}
 use Rattle.aes.specs.Block.{rounds, cipher}
-use Rattle.aes.specs.Words.{blockOf}
+use Rattle.words.specs.Words.{blockOf}
 use borrow.Author.Needs.{needs}
 use Rattle.aes.proofs.block.encrypt_with.Statement.{statement}
 use Rattle.aes.proofs.block.encrypt_with.Tie as tie
@@ -62,7 +62,13 @@ bytes-of-requires c κs = search needs
 
 returns : tie.Need-returns Inv-loop μ-loop
 unfolding cipher
-returns c = let e : c .before .before .before .before .before .loop .i ≡ 9 = omega arith in c .bytes-of .ensures ∙ c .before .with-key2 .ensures ∙ rw (c .before .before .sub-shift .ensures, c .before .before .before .before .before .loop .inv .1, e, c .before .before .before .before .before .before .with-key .ensures, c .before .before .before .before .before .before .before .columns .ensures) refl
+returns c =
+    let c5 = c .before .before .before .before .before in
+    let c6 = c5 .before in
+    let c7 = c6 .before in
+    let e : c5 .loop .i ≡ 9 = omega arith in
+    c .bytes-of .ensures ∙ c .before .with-key2 .ensures
+    ∙ rw (c .before .before .sub-shift .ensures, c5 .loop .inv .1, e, c6 .with-key .ensures, c7 .columns .ensures .1) refl
 
 pub encrypt-with-spec : {M : Type 1} → statement M
 encrypt-with-spec =

@@ -1,5 +1,5 @@
 -- `aes::block::sub` meets its contract: row 1 of a word of the table.
-use Rattle.aes.proofs.Words.{mixing-sub}
+use Rattle.words.proofs.Words.{mixing-sub}
 use borrow.Author.Needs.{needs}
 use Rattle.aes.proofs.block.sub.Statement.{statement}
 use Rattle.aes.proofs.block.sub.Tie as tie

@@ -1,5 +1,5 @@
 -- `aes::block::sub_column` meets its contract: the definition, call by call.
-use Rattle.aes.specs.Words.{pickedOf}
+use Rattle.words.specs.Words.{pickedOf}
 use borrow.Author.Needs.{needs}
 use Rattle.aes.proofs.block.sub_column.Statement.{statement}
 use Rattle.aes.proofs.block.sub_column.Tie as tie

@@ -2,7 +2,7 @@
 use Rattle.sbox.specs.Tables.{sbox}
 use Rattle.sbox.proofs.Rule.{sbox-bytes}
 use Rattle.base.specs.Bytes.{byteAt}
-use Rattle.aes.specs.Words.{blockOf}
+use Rattle.words.specs.Words.{blockOf}
 use Rattle.aes.proofs.Words.{shifted-block}
 use borrow.Author.Needs.{needs}
 use Rattle.aes.proofs.block.sub_shift.Statement.{statement}
@@ -70,7 +70,11 @@ sub-column-requires-4 c κs = search needs
 
 returns : tie.Need-returns
 unfolding blockOf
-returns c = let s = c .before .before .before .before .args .t2 in rw (c .before .before .before .sub-column .ensures, c .before .before .sub-column2 .ensures, c .before .sub-column3 .ensures, c .sub-column4 .ensures) (shifted-block sbox sbox-bytes (byteAt s 0) (byteAt s 1) (byteAt s 2) (byteAt s 3))
+returns c =
+    let c4 = c .before .before .before .before in
+    let s = c4 .args .t2 in
+    rw (c .before .before .before .sub-column .ensures, c .before .before .sub-column2 .ensures, c .before .sub-column3 .ensures, c .sub-column4 .ensures)
+    (shifted-block sbox sbox-bytes (byteAt s 0) (byteAt s 1) (byteAt s 2) (byteAt s 3))
 
 pub sub-shift-spec : {M : Type 1} → statement M
 sub-shift-spec =

@@ -1,7 +1,7 @@
 -- `aes::block::with_key` meets its contract: four sums of words.
 use mathlib.Core.Path.{ap, _∙_}
 use Rattle.aes.specs.Block.{xorBlock}
-use Rattle.aes.specs.Words.{blockOf}
+use Rattle.words.specs.Words.{blockOf}
 use Rattle.aes.proofs.Words.{sum-block}
 use borrow.Author.Needs.{needs}
 use Rattle.aes.proofs.block.with_key.Statement.{statement}
@@ -35,7 +35,7 @@ array-read-t32 : tie.Need-array-read-t32
 array-read-t32 c = search needs
 
 returns : tie.Need-returns
-returns c = sum-block (c .before .args .t1) (c .columns .result) ∙ ap (xorBlock (blockOf (c .before .args .t1))) (c .columns .ensures)
+returns c = sum-block (c .before .args .t1) (c .columns .result) ∙ ap (xorBlock (blockOf (c .before .args .t1))) (c .columns .ensures .1)
 
 pub with-key-spec : {M : Type 1} → statement M
 with-key-spec =

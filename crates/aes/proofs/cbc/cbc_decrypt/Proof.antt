@@ -54,15 +54,32 @@ loop-less c = search needs
 
 loop-again : tie.Need-loop-again Inv-loop μ-loop
 unfolding opened
-loop-again c = let bl : c .before .before .before .before .before .before .before .before .before .load .result ≡ take 16 (drop (c .before .before .before .before .before .before .before .before .before .before .before .before .loop .at) (c .before .before .before .before .before .before .before .before .before .before .before .before .loop .buf)) = c .before .before .before .before .before .before .before .before .before .load .ensures ∙ block-inside (c .before .before .before .before .before .before .before .before .before .before .before .before .loop .buf) (c .before .before .before .before .before .before .before .before .before .before .before .before .loop .at) (omega (arith, c .before .before .before .before .before .before .before .before .before .before .before .before .loop .inv .ends)) in let e : c .before .before .before .before .before .xor-block .result ≡ opened (c .before .before .before .before .before .before .before .before .before .before .before .before .before .before .before .before .before .args .w .now) (c .before .before .before .before .before .before .before .before .before .before .before .before .loop .v) (take 16 (drop (c .before .before .before .before .before .before .before .before .before .before .before .before .loop .at) (c .before .before .before .before .before .before .before .before .before .before .before .before .loop .buf))) = c .before .before .before .before .before .xor-block .ensures ∙ rw (c .before .before .before .before .before .before .decrypt-with .ensures, bl) refl in
-    still-told _ _ _ _ _ (c .before .before .before .before .before .before .before .before .before .before .before .before .loop .buf) (c .before .before .before .before .before .before .before .before .before .before .before .before .loop .v) _ _ _ (c .before .before .before .before .before .before .before .before .before .before .before .before .loop .at) (c .before .before .before .before .before .before .before .before .before .before .before .before .loop .left) (c .before .before .before .before .before .before .before .before .before .before .before .before .loop .inv) (c .before .before .before .before .before .before .before .before .before .before .before .loop-test .taken) e (search needs) (c .before .before .put .ensures) bl
+loop-again c =
+    let c5 = c .before .before .before .before .before in
+    let c6 = c5 .before in
+    let c9 = c6 .before .before .before in
+    let c11 = c9 .before .before in
+    let c12 = c11 .before in
+    let c17 = c12 .before .before .before .before .before in
+    let bl : c9 .load .result ≡ take 16 (drop (c12 .loop .at) (c12 .loop .buf)) = c9 .load .ensures
+    ∙ block-inside (c12 .loop .buf) (c12 .loop .at) (omega (arith, c12 .loop .inv .ends)) in
+    let e : c5 .xor-block .result ≡ opened (c17 .args .w .now) (c12 .loop .v) (take 16 (drop (c12 .loop .at) (c12 .loop .buf))) = c5 .xor-block .ensures
+    ∙ rw (c6 .decrypt-with .ensures, bl) refl in
+    still-told _ _ _ _ _ (c12 .loop .buf) (c12 .loop .v) _ _ _ (c12 .loop .at) (c12 .loop .left) (c12 .loop .inv) (c11 .loop-test .taken) e (search needs)
+    (c .before .before .put .ensures) bl
 
 same-length : tie.Need-same-length Inv-loop μ-loop
 same-length c = c .before .loop .inv .same
 
 returns-2 : tie.Need-returns-2 Inv-loop μ-loop
 unfolding cbcBack
-returns-2 c = record { told = simp (eq-eqb _ _ (c .before .before .before .before .if1 .left)); left = still-end _ _ _ _ _ _ _ _ _ (c .before .loop .inv) (c .loop-test .left) ∙ simp (eq-eqb _ _ (c .before .before .before .before .if1 .left)) }
+returns-2 c =
+    let c4 = c .before .before .before .before in
+    record {
+      told = simp (eq-eqb _ _ (c4 .if1 .left));
+      left = still-end _ _ _ _ _ _ _ _ _ (c .before .loop .inv) (c .loop-test .left)
+          ∙ simp (eq-eqb _ _ (c4 .if1 .left));
+    }
 
 pub cbc-decrypt-spec : {M : Type 1} → statement M
 cbc-decrypt-spec =

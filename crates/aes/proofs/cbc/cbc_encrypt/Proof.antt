@@ -51,15 +51,32 @@ loop-less c = search needs
 
 loop-again : tie.Need-loop-again Inv-loop μ-loop
 unfolding sealed
-loop-again c = let bl : c .before .before .before .before .before .before .before .before .load .result ≡ take 16 (drop (c .before .before .before .before .before .before .before .before .before .before .before .loop .at) (c .before .before .before .before .before .before .before .before .before .before .before .loop .buf)) = c .before .before .before .before .before .before .before .before .load .ensures ∙ block-inside (c .before .before .before .before .before .before .before .before .before .before .before .loop .buf) (c .before .before .before .before .before .before .before .before .before .before .before .loop .at) (omega (arith, c .before .before .before .before .before .before .before .before .before .before .before .loop .inv .ends)) in let e : c .before .before .before .before .before .encrypt-with .result ≡ sealed (c .before .before .before .before .before .before .before .before .before .before .before .before .before .before .before .args .w .now) (c .before .before .before .before .before .before .before .before .before .before .before .loop .v) (take 16 (drop (c .before .before .before .before .before .before .before .before .before .before .before .loop .at) (c .before .before .before .before .before .before .before .before .before .before .before .loop .buf))) = c .before .before .before .before .before .encrypt-with .ensures ∙ rw (c .before .before .before .before .before .before .xor-block .ensures, bl) refl in
-    still-told _ _ _ _ _ (c .before .before .before .before .before .before .before .before .before .before .before .loop .buf) (c .before .before .before .before .before .before .before .before .before .before .before .loop .v) _ _ _ (c .before .before .before .before .before .before .before .before .before .before .before .loop .at) (c .before .before .before .before .before .before .before .before .before .before .before .loop .left) (c .before .before .before .before .before .before .before .before .before .before .before .loop .inv) (c .before .before .before .before .before .before .before .before .before .before .loop-test .taken) e (search needs) (c .before .before .put .ensures) e
+loop-again c =
+    let c5 = c .before .before .before .before .before in
+    let c6 = c5 .before in
+    let c8 = c6 .before .before in
+    let c10 = c8 .before .before in
+    let c11 = c10 .before in
+    let c15 = c11 .before .before .before .before in
+    let bl : c8 .load .result ≡ take 16 (drop (c11 .loop .at) (c11 .loop .buf)) = c8 .load .ensures
+    ∙ block-inside (c11 .loop .buf) (c11 .loop .at) (omega (arith, c11 .loop .inv .ends)) in
+    let e : c5 .encrypt-with .result ≡ sealed (c15 .args .w .now) (c11 .loop .v) (take 16 (drop (c11 .loop .at) (c11 .loop .buf))) = c5 .encrypt-with .ensures
+    ∙ rw (c6 .xor-block .ensures, bl) refl in
+    still-told _ _ _ _ _ (c11 .loop .buf) (c11 .loop .v) _ _ _ (c11 .loop .at) (c11 .loop .left) (c11 .loop .inv) (c10 .loop-test .taken) e (search needs)
+    (c .before .before .put .ensures) e
 
 same-length : tie.Need-same-length Inv-loop μ-loop
 same-length c = c .before .loop .inv .same
 
 returns-2 : tie.Need-returns-2 Inv-loop μ-loop
 unfolding cbcOut
-returns-2 c = record { told = simp (eq-eqb _ _ (c .before .before .before .if1 .left)); left = still-end _ _ _ _ _ _ _ _ _ (c .before .loop .inv) (c .loop-test .left) ∙ simp (eq-eqb _ _ (c .before .before .before .if1 .left)) }
+returns-2 c =
+    let c3 = c .before .before .before in
+    record {
+      told = simp (eq-eqb _ _ (c3 .if1 .left));
+      left = still-end _ _ _ _ _ _ _ _ _ (c .before .loop .inv) (c .loop-test .left)
+          ∙ simp (eq-eqb _ _ (c3 .if1 .left));
+    }
 
 pub cbc-encrypt-spec : {M : Type 1} → statement M
 cbc-encrypt-spec =

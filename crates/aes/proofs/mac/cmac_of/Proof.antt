@@ -43,9 +43,17 @@ loop-less : tie.Need-loop-less Inv-loop μ-loop
 loop-less c = search needs
 
 loop-again : tie.Need-loop-again Inv-loop μ-loop
-loop-again c = let a = c .before .before .before .before .before .before .before .before .args in let s = a .s .now in
-    let e : c .encrypt-with .result ≡ cipher (a .w .now) (xorBlock (take 16 (drop (c .before .before .before .before .before .loop .at) s)) (c .before .before .before .before .before .loop .v)) = c .encrypt-with .ensures ∙ rw (c .before .xor-block .ensures, c .before .before .load .ensures, block-inside s (c .before .before .before .before .before .loop .at) (omega arith)) refl in
-    (omega arith, rw (e, ← drop-drop 16 (c .before .before .before .before .before .loop .at) s) (sym (from-more (a .w .now) (c .before .before .before .before .before .loop .v) (drop (c .before .before .before .before .before .loop .at) s) (simp length-drop (omega arith))) ∙ c .before .before .before .before .before .loop .inv .1))
+loop-again c =
+    let c5 = c .before .before .before .before .before in
+    let c8 = c5 .before .before .before in
+    let a = c8 .args in
+    let s = a .s .now in
+    let e : c .encrypt-with .result ≡ cipher (a .w .now) (xorBlock (take 16 (drop (c5 .loop .at) s)) (c5 .loop .v)) = c .encrypt-with .ensures
+    ∙ rw (c .before .xor-block .ensures, c .before .before .load .ensures, block-inside s (c5 .loop .at) (omega arith)) refl in (
+      omega arith,
+      rw (e, ← drop-drop 16 (c5 .loop .at) s)
+          (sym (from-more (a .w .now) (c5 .loop .v) (drop (c5 .loop .at) s) (simp length-drop (omega arith))) ∙ c5 .loop .inv .1),
+    )
 
 sub-last-block : tie.Need-sub-last-block Inv-loop μ-loop
 sub-last-block c = search needs
@@ -66,7 +74,15 @@ encrypt-with-requires-2 : tie.Need-encrypt-with-requires-2 Inv-loop μ-loop
 encrypt-with-requires-2 c κs = search needs
 
 returns : tie.Need-returns Inv-loop μ-loop
-returns c = let a = c .before .before .before .before .before .before .before .before .before .before .args in let s = a .s .now in c .encrypt-with2 .ensures ∙ rw (c .before .xor-block2 .ensures, c .before .before .last-block .ensures) (ap (λ l. cipher (a .w .now) (xorBlock (lastBlock (a .w .now) l) (c .before .before .before .before .before .before .before .loop .v))) (take-all (length s - c .before .before .before .before .before .before .before .loop .at) (drop (c .before .before .before .before .before .before .before .loop .at) s) (simp length-drop (omega arith))) ∙ sym (from-last (a .w .now) (c .before .before .before .before .before .before .before .loop .v) (drop (c .before .before .before .before .before .before .before .loop .at) s) (simp length-drop (omega arith))) ∙ c .before .before .before .before .before .before .before .loop .inv .1 ∙ sym (from-start (a .w .now) s))
+returns c =
+    let c7 = c .before .before .before .before .before .before .before in
+    let c10 = c7 .before .before .before in
+    let a = c10 .args in
+    let s = a .s .now in
+    c .encrypt-with2 .ensures ∙ rw (c .before .xor-block2 .ensures, c .before .before .last-block .ensures)
+    (ap (λ l. cipher (a .w .now) (xorBlock (lastBlock (a .w .now) l) (c7 .loop .v)))
+    (take-all (length s - c7 .loop .at) (drop (c7 .loop .at) s) (simp length-drop (omega arith)))
+    ∙ sym (from-last (a .w .now) (c7 .loop .v) (drop (c7 .loop .at) s) (simp length-drop (omega arith))) ∙ c7 .loop .inv .1 ∙ sym (from-start (a .w .now) s))
 
 pub cmac-of-spec : {M : Type 1} → statement M
 cmac-of-spec =

@@ -25,8 +25,19 @@ xor-block-requires c κs = search needs
 
 returns : tie.Need-returns
 unfolding lastBlock subkey1
-returns c = let s = c .before .before .before .before .before .before .args .s .now in let h : length s ≡ 16 = c .before .before .if1 .taken in
-    c .xor-block .ensures ∙ rw (c .before .load .ensures, block-inside s 0 (omega arith), c .before .before .before .double-block .ensures, c .before .before .before .before .encrypt-with .ensures, take-all 16 s (omega arith), eq-eqb (length s) 16 h) refl
+returns c =
+    let c4 = c .before .before .before .before in
+    let c6 = c4 .before .before in
+    let s = c6 .args .s .now in
+    let h : length s ≡ 16 = c .before .before .if1 .taken in
+    c .xor-block .ensures ∙ rw (
+      c .before .load .ensures,
+      block-inside s 0 (omega arith),
+      c .before .before .before .double-block .ensures,
+      c4 .encrypt-with .ensures,
+      take-all 16 s (omega arith),
+      eq-eqb (length s) 16 h,
+    ) refl
 
 padded-requires : tie.Need-padded-requires
 padded-requires c κs = omega (arith, c .if1 .left, c .before .before .before .before .pre .1)
@@ -39,8 +50,18 @@ xor-block-requires-2 c κs = search needs
 
 returns-2 : tie.Need-returns-2
 unfolding lastBlock subkey1 subkey2
-returns-2 c = let s = c .before .before .before .before .before .before .before .args .s .now in
-    c .xor-block2 .ensures ∙ rw (c .before .before .padded .ensures, c .before .double-block2 .ensures, c .before .before .before .before .double-block .ensures, c .before .before .before .before .before .encrypt-with .ensures, ne-eqb (length s) 16 (c .before .before .before .if1 .left)) refl
+returns-2 c =
+    let c4 = c .before .before .before .before in
+    let c5 = c4 .before in
+    let c7 = c5 .before .before in
+    let s = c7 .args .s .now in
+    c .xor-block2 .ensures ∙ rw (
+      c .before .before .padded .ensures,
+      c .before .double-block2 .ensures,
+      c4 .double-block .ensures,
+      c5 .encrypt-with .ensures,
+      ne-eqb (length s) 16 (c .before .before .before .if1 .left),
+    ) refl
 
 pub last-block-spec : {M : Type 1} → statement M
 last-block-spec =

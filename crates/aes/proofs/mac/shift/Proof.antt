@@ -60,10 +60,15 @@ array-write-r-2 c = search needs
 
 returns : tie.Need-returns Inv-loop μ-loop
 unfolding shifted
-returns c = let s = c .before .before .args .t1 in let e : 15 ≡ c .before .loop .i = omega arith in let l : length s ≡ 16 = search needs in
+returns c =
+    let s = c .before .before .args .t1 in
+    let e : 15 ≡ c .before .loop .i = omega arith in
+    let l : length s ≡ 16 = search needs in
     let z : byteAt s 16 ≡ 0 = List·getD-eq-default s 0 (omega arith) in
     let v : byteAt s 15 % 128 * 2 ≡ byteAt s 15 % 128 * 2 + byteAt s 16 / 128 = omega arith in
-    ap (λ n. set (c .before .loop .r) n (byteAt s 15 % 128 * 2)) e ∙ filled-all 0 16 _ _ _ (filled-more 0 16 _ _ (c .before .loop .i) _ (c .before .loop .inv .1) (omega arith) (v ∙ ap (λ n. byteAt s n % 128 * 2 + byteAt s (n + 1) / 128) e)) (omega arith)
+    ap (λ n. set (c .before .loop .r) n (byteAt s 15 % 128 * 2)) e
+    ∙ filled-all 0 16 _ _ _ (filled-more 0 16 _ _ (c .before .loop .i) _ (c .before .loop .inv .1) (omega arith)
+    (v ∙ ap (λ n. byteAt s n % 128 * 2 + byteAt s (n + 1) / 128) e)) (omega arith)
 
 pub shift-spec : {M : Type 1} → statement M
 shift-spec =

@@ -1,7 +1,7 @@
 -- `messaging::command::give_opened` meets its contract: what is decrypted is unpadded.
 use Rattle.messaging.proofs.Opening.{hidden-content}
-use Rattle.messaging.proofs.Pieces.{chained}
-use Rattle.messaging.specs.Command.{Gives}
+use Rattle.aes.proofs.Turns.{chains-whole}
+use Rattle.messaging.specs.Command.{OpensInto}
 use Rattle.aes.specs.Cbc.{cbcBack}
 use mathlib.Core.Path.{ap₂, subst, _∙_}
 use borrow.Author.Needs.{needs}
@@ -27,8 +27,15 @@ same-length-2 : tie.Need-same-length-2
 same-length-2 c = search needs
 
 returns : tie.Need-returns
-returns c = let a = c .before .before .before .before .before .before .before .before .before .before .before .before .before .before .before .before .args in subst (λ o. Gives o (a .room .now) (c .before .before .give-text .result) (c .before .before .give-text .last .1 .0))
-    (hidden-content (a .s) (a .part .now) (c .before .before .before .before .before .before .before .cbc-decrypt .last .1 .1 .0) (chained (c .before .before .before .before .before .before .before .cbc-decrypt .ensures) (c .before .before .before .before .before .before .before .before .before .before .before .before .before .before .before .before .pre .1) ∙ ap₂ (λ w v. cbcBack w v (a .part .now)) (c .before .before .before .before .before .before .before .before .before .before .before .before .expand .ensures) (c .before .before .before .before .before .before .before .before .before .before .command-vector .ensures)))
+returns c =
+    let c7 = c .before .before .before .before .before .before .before in
+    let c10 = c7 .before .before .before in
+    let c12 = c10 .before .before in
+    let c16 = c12 .before .before .before .before in
+    let a = c16 .args in
+    subst (λ o. OpensInto o (a .room .now) (c .before .before .give-text .result) (c .before .before .give-text .last .1 .0))
+    (hidden-content (a .s) (a .part .now) (c7 .cbc-decrypt .last .1 .1 .0)
+    (chains-whole (c7 .cbc-decrypt .ensures) (c16 .pre .1) ∙ ap₂ (λ w v. cbcBack w v (a .part .now)) (c12 .expand .ensures) (c10 .command-vector .ensures)))
     (c .before .before .give-text .ensures)
 
 pub give-opened-spec : {M : Type 1} → statement M

@@ -28,7 +28,12 @@ part-right-requires c κs = search needs
 
 returns-3 : tie.Need-returns-3
 unfolding lengthRight
-returns-3 c = let a = c .before .before .before .before .args in c .part-right .ensures ∙ rw (le-leb (a .h + macLength (a .m)) (a .n) (omega (arith, c .before .before .before .mac-length .ensures))) (ap (λ t. partRight (a .m) (a .there) (a .n - t - a .h)) (c .before .before .before .mac-length .ensures))
+returns-3 c =
+    let c3 = c .before .before .before in
+    let c4 = c3 .before in
+    let a = c4 .args in
+    c .part-right .ensures ∙ rw (le-leb (a .h + macLength (a .m)) (a .n) (omega (arith, c3 .mac-length .ensures)))
+    (ap (λ t. partRight (a .m) (a .there) (a .n - t - a .h)) (c3 .mac-length .ensures))
 
 pub length-right-spec : {M : Type 1} → statement M
 length-right-spec =

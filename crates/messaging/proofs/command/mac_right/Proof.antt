@@ -34,7 +34,11 @@ alike-requires : tie.Need-alike-requires
 alike-requires c κs = search needs
 
 returns : tie.Need-returns
-returns c = let x = c .before .before .before .before .before .before .args .x .now in c .alike .ensures ∙ ap₂ same (take-all (length x - (length x - 8)) (drop (length x - 8) x) (simp length-drop (omega arith))) (c .before .before .before .message-mac .ensures)
+returns c =
+    let c6 = c .before .before .before .before .before .before in
+    let x = c6 .args .x .now in
+    c .alike .ensures ∙ ap₂ same (take-all (length x - (length x - 8)) (drop (length x - 8) x) (simp length-drop (omega arith)))
+    (c .before .before .before .message-mac .ensures)
 
 pub mac-right-spec : {M : Type 1} → statement M
 mac-right-spec =

@@ -1,10 +1,10 @@
 -- `messaging::command::open_full` meets its contract: the MAC, then the part.
 use lib.Seq.{length-take-le}
 use Rattle.messaging.proofs.Opening.{checked-full, full-wrong, full-blocks, content-none}
-use Rattle.messaging.proofs.Pieces.{part-of}
+use Rattle.base.proofs.Pieces.{part-of}
 use Rattle.messaging.specs.declared.Mode.the-variants.{Full}
-use Rattle.messaging.specs.Padding.{blocks}
-use Rattle.messaging.specs.Command.{Gives, checked}
+use Rattle.padding.specs.Padding.{blocks}
+use Rattle.messaging.specs.Command.{OpensInto, checked}
 use Rattle.messaging.specs.Protect.{plain, content, commandIv}
 use mathlib.Core.Bool.{true, false}
 use lib.ListN.{length, length-drop, take, drop}
@@ -39,10 +39,16 @@ same-length : tie.Need-same-length
 same-length c = search needs
 
 returns : tie.Need-returns
-returns c = let a = c .before .before .before .before .before .before .before .before .before .before .args in subst (λ o. Gives o (a .room .now) (c .before .before .give-hidden .result) (c .before .before .give-hidden .last .1 .1 .0))
-    (ap (content Full (a .s) (commandIv (a .s)) true) (part-of (a .h) (length (a .x .now) - 8) (a .x .now) (omega arith)) ∙ sym (checked-full (a .s) (a .cmd) (a .x .now) (a .h) true (sym (c .before .before .before .before .before .before .before .mac-right .ensures) ∙ c .before .before .before .before .before .before .if1 .taken))
-    ∙ ap (checked Full (a .s) (a .cmd) (a .x .now) (a .h)) (sym (c .before .before .before .before .before .if2 .taken)))
-    (c .before .before .give-hidden .ensures)
+returns c =
+    let c5 = c .before .before .before .before .before in
+    let c6 = c5 .before in
+    let c7 = c6 .before in
+    let c10 = c7 .before .before .before in
+    let a = c10 .args in
+    subst (λ o. OpensInto o (a .room .now) (c .before .before .give-hidden .result) (c .before .before .give-hidden .last .1 .1 .0))
+    (ap (content Full (a .s) (commandIv (a .s)) true) (part-of (a .h) (length (a .x .now) - 8) (a .x .now) (omega arith))
+    ∙ sym (checked-full (a .s) (a .cmd) (a .x .now) (a .h) true (sym (c7 .mac-right .ensures) ∙ c6 .if1 .taken))
+    ∙ ap (checked Full (a .s) (a .cmd) (a .x .now) (a .h)) (sym (c5 .if2 .taken))) (c .before .before .give-hidden .ensures)
 
 sub-give : tie.Need-sub-give
 sub-give c = search needs
@@ -60,13 +66,22 @@ same-length-2 : tie.Need-same-length-2
 same-length-2 c = search needs
 
 returns-2 : tie.Need-returns-2
-returns-2 c = let a = c .before .before .before .before .before .before .before .before .before .before .args in subst (λ o. Gives o (a .room .now) (c .before .before .give .result) (c .before .before .give .last .1 .0))
-    (ap plain (part-of (a .h) (length (a .x .now) - 8) (a .x .now) (omega arith)) ∙ sym (content-none (a .s) (commandIv (a .s)) _) ∙ sym (checked-full (a .s) (a .cmd) (a .x .now) (a .h) false (sym (c .before .before .before .before .before .before .before .mac-right .ensures) ∙ c .before .before .before .before .before .before .if1 .taken))
-    ∙ ap (checked Full (a .s) (a .cmd) (a .x .now) (a .h)) (sym (c .before .before .before .before .before .if2 .left)))
-    (c .before .before .give .ensures)
+returns-2 c =
+    let c5 = c .before .before .before .before .before in
+    let c6 = c5 .before in
+    let c7 = c6 .before in
+    let c10 = c7 .before .before .before in
+    let a = c10 .args in
+    subst (λ o. OpensInto o (a .room .now) (c .before .before .give .result) (c .before .before .give .last .1 .0))
+    (ap plain (part-of (a .h) (length (a .x .now) - 8) (a .x .now) (omega arith)) ∙ sym (content-none (a .s) (commandIv (a .s)) _)
+    ∙ sym (checked-full (a .s) (a .cmd) (a .x .now) (a .h) false (sym (c7 .mac-right .ensures) ∙ c6 .if1 .taken))
+    ∙ ap (checked Full (a .s) (a .cmd) (a .x .now) (a .h)) (sym (c5 .if2 .left))) (c .before .before .give .ensures)
 
 returns-3 : tie.Need-returns-3
-returns-3 c = let a = c .before .before .before .before .args in rw (full-wrong (a .s) (a .cmd) (a .x .now) (a .h) (a .there) (sym (c .before .mac-right .ensures) ∙ c .if1 .left)) (record { answer = refl; room = refl })
+returns-3 c =
+    let c4 = c .before .before .before .before in
+    let a = c4 .args in
+    rw (full-wrong (a .s) (a .cmd) (a .x .now) (a .h) (a .there) (sym (c .before .mac-right .ensures) ∙ c .if1 .left)) (record { answer = refl; room = refl })
 
 pub open-full-spec : {M : Type 1} → statement M
 open-full-spec =

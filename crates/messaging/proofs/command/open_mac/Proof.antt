@@ -1,7 +1,7 @@
 -- `messaging::command::open_mac` meets its contract: the MAC, then the part.
 use Rattle.messaging.proofs.Opening.{checked-mac, mac-wrong}
-use Rattle.messaging.proofs.Pieces.{part-of}
-use Rattle.messaging.specs.Command.{Gives}
+use Rattle.base.proofs.Pieces.{part-of}
+use Rattle.messaging.specs.Command.{OpensInto}
 use Rattle.messaging.specs.Protect.{plain}
 use lib.ListN.{length}
 use native.Mathlib.Omega.{arith}
@@ -33,12 +33,20 @@ same-length : tie.Need-same-length
 same-length c = search needs
 
 returns : tie.Need-returns
-returns c = let a = c .before .before .before .before .before .before .before .before .before .args in subst (λ o. Gives o (a .room .now) (c .before .before .give .result) (c .before .before .give .last .1 .0))
-    (ap plain (part-of (a .h) (length (a .x .now) - 8) (a .x .now) (omega arith)) ∙ sym (checked-mac (a .s) (a .cmd) (a .x .now) (a .h) _ (sym (c .before .before .before .before .before .before .mac-right .ensures) ∙ c .before .before .before .before .before .if1 .taken)))
-    (c .before .before .give .ensures)
+returns c =
+    let c5 = c .before .before .before .before .before in
+    let c6 = c5 .before in
+    let c9 = c6 .before .before .before in
+    let a = c9 .args in
+    subst (λ o. OpensInto o (a .room .now) (c .before .before .give .result) (c .before .before .give .last .1 .0))
+    (ap plain (part-of (a .h) (length (a .x .now) - 8) (a .x .now) (omega arith))
+    ∙ sym (checked-mac (a .s) (a .cmd) (a .x .now) (a .h) _ (sym (c6 .mac-right .ensures) ∙ c5 .if1 .taken))) (c .before .before .give .ensures)
 
 returns-2 : tie.Need-returns-2
-returns-2 c = let a = c .before .before .before .before .args in rw (mac-wrong (a .s) (a .cmd) (a .x .now) (a .h) _ (sym (c .before .mac-right .ensures) ∙ c .if1 .left)) (record { answer = refl; room = refl })
+returns-2 c =
+    let c4 = c .before .before .before .before in
+    let a = c4 .args in
+    rw (mac-wrong (a .s) (a .cmd) (a .x .now) (a .h) _ (sym (c .before .mac-right .ensures) ∙ c .if1 .left)) (record { answer = refl; room = refl })
 
 pub open-mac-spec : {M : Type 1} → statement M
 open-mac-spec =

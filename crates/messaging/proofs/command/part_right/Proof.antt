@@ -1,7 +1,7 @@
 -- `messaging::command::part_right` meets its contract: each mode.
 use Rattle.messaging.proofs.Opening.{part-none}
 use mathlib.Core.Path.{sym}
-use Rattle.messaging.specs.Padding.{blocks}
+use Rattle.padding.specs.Padding.{blocks}
 use Rattle.messaging.specs.Command.{partRight}
 use Rattle.base.proofs.Bytes.{tests}
 use borrow.Author.Needs.{needs}

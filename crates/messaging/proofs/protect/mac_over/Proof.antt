@@ -1,7 +1,7 @@
 -- `messaging::protect::mac_over` meets its contract: three pieces at the front of the buffer.
 use lib.Seq.{length-take-le}
-use Rattle.messaging.specs.Protect.{mac}
-use Rattle.messaging.proofs.Pieces.{also}
+use Rattle.aes.specs.Cmac.{mac}
+use Rattle.base.proofs.Pieces.{also}
 use Rattle.base.proofs.Bytes.{none, front}
 use Rattle.base.specs.Bytes.{low}
 use Rattle.aes.specs.Cmac.{cmac, evenPlaces}
@@ -54,16 +54,30 @@ array-share-prefix-b : tie.Need-array-share-prefix-b
 array-share-prefix-b c = search needs
 
 slice-aggregate-mac-of : tie.Need-slice-aggregate-mac-of
-slice-aggregate-mac-of c = let b = c .before .before .before .before .put3 .last .1 .0 in let l : length b ≡ 300 = search needs in let m : length (c .before .before .before .before .before .before .before .before .before .before .before .before .before .before .before .args .body .now) ≤ 293 = c .before .before .before .before .before .before .before .before .before .before .before .before .before .before .before .pre in sym (length-take-le _ b (omega arith))
+slice-aggregate-mac-of c =
+    let c4 = c .before .before .before .before in
+    let b = c4 .put3 .last .1 .0 in
+    let l : length b ≡ 300 = search needs in
+    let c15 = c4 .before .before .before .before .before .before .before .before .before .before .before in
+    let m : length (c15 .args .body .now) ≤ 293 = c15 .pre in
+    sym (length-take-le _ b (omega arith))
 
 mac-of-requires : tie.Need-mac-of-requires
 mac-of-requires c κs = search needs
 
 returns : tie.Need-returns
 unfolding mac low
-returns c = let a = c .before .before .before .before .before .before .before .before .before .before .before .before .before .before .before .before .args in let l : length (a .t4) ≡ 4 = search needs in let m : length (a .body .now) ≤ 293 = c .before .before .before .before .before .before .before .before .before .before .before .before .before .before .before .before .pre in
+returns c =
+    let c16 = c .before .before .before .before .before .before .before .before .before .before .before .before .before .before .before .before in
+    let a = c16 .args in
+    let l : length (a .t4) ≡ 4 = search needs in
+    let c5 = c .before .before .before .before .before in
+    let c8 = c5 .before .before .before in
+    let c12 = c8 .before .before .before .before in
+    let m : length (a .body .now) ≤ 293 = c16 .pre in
     c .mac-of .ensures ∙ ap₂ (λ w t. evenPlaces (cmac w t)) (c .before .before .before .expand .ensures)
-    (front (also (also (also (none _) (a .first ∷ low 2 (a .counter)) 3 (omega arith) (omega arith) (c .before .before .before .before .before .before .before .before .before .before .before .before .put .ensures)) (a .t4) 7 (omega arith) (omega arith) (c .before .before .before .before .before .before .before .before .put2 .ensures)) (a .body .now) (7 + length (a .body .now)) refl (omega arith) (c .before .before .before .before .before .put3 .ensures)))
+    (front (also (also (also (none _) (a .first ∷ low 2 (a .counter)) 3 (omega arith) (omega arith) (c12 .put .ensures)) (a .t4) 7 (omega arith) (omega arith)
+    (c8 .put2 .ensures)) (a .body .now) (7 + length (a .body .now)) refl (omega arith) (c5 .put3 .ensures)))
 
 pub mac-over-spec : {M : Type 1} → statement M
 mac-over-spec =

@@ -1,6 +1,6 @@
 -- `messaging::protect::vector` meets its contract: sixteen bytes, as the definition has them.
 use mathlib.Core.List.{_∷_, _++_}
-use Rattle.messaging.proofs.Pieces.{tab-of}
+use Rattle.base.proofs.Pieces.{tab-of}
 use Rattle.aes.specs.Block.{cipher}
 use mathlib.Core.Path.{_≡_, _∙_, ap}
 use Rattle.base.specs.Bytes.{low}

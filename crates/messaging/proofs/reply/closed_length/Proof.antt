@@ -2,7 +2,7 @@
 use borrow.Author.Tests.{lt-leb, le-leb}
 use native.Mathlib.Omega.{arith}
 use mathlib.Core.Path.{refl}
-use Rattle.messaging.specs.Padding.{paddedLength}
+use Rattle.padding.specs.Padding.{paddedLength}
 use Rattle.messaging.specs.Reply.{closedLength, hiddenLength}
 use Rattle.base.proofs.Bytes.{tests}
 use borrow.Author.Needs.{needs}

@@ -1,6 +1,6 @@
 -- `messaging::reply::sign` meets its contract: the MAC is a piece behind the rest.
 use Rattle.messaging.proofs.Closing.{seals}
-use Rattle.messaging.proofs.Pieces.{also, fronted}
+use Rattle.base.proofs.Pieces.{also, fronted}
 use lib.Seq.{length-take-le}
 use lib.ListN.{length, length-take}
 use native.Mathlib.Omega.{arith}
@@ -32,8 +32,13 @@ same-length : tie.Need-same-length
 same-length c = search needs
 
 returns : tie.Need-returns
-returns c = let a = c .before .before .before .before .before .before .before .before .args in let l : length (c .before .before .before .before .before .message-mac .result) ≡ 8 = search needs in
-    rw (← c .before .before .before .before .before .message-mac .ensures) (seals (also (fronted (a .n) (a .room .now) (omega arith)) (c .before .before .before .before .before .message-mac .result) (a .n + 8) (omega arith) (omega arith) (c .before .before .put .ensures)))
+returns c =
+    let c5 = c .before .before .before .before .before in
+    let c8 = c5 .before .before .before in
+    let a = c8 .args in
+    let l : length (c5 .message-mac .result) ≡ 8 = search needs in
+    rw (← c5 .message-mac .ensures) (seals (also (fronted (a .n) (a .room .now) (omega arith)) (c5 .message-mac .result) (a .n + 8) (omega arith) (omega arith)
+    (c .before .before .put .ensures)))
 
 pub sign-spec : {M : Type 1} → statement M
 sign-spec =

@@ -1,0 +1,47 @@
+-- `authentication::decipher` meets its contract: 32 bytes laid over 32, then decrypted.
+use Rattle.authentication.specs.Authentication.{deciphered, zeros}
+use Rattle.aes.proofs.Turns.{chains-whole}
+use Rattle.base.proofs.Bytes.{laid-whole}
+use Rattle.aes.specs.Cbc.{cbcBack}
+use lib.ListN.{length}
+use mathlib.Core.Path.{_≡_, refl, ap, ap₂, _∙_}
+use borrow.Author.Needs.{needs}
+use Rattle.authentication.proofs.decipher.Statement.{statement}
+use Rattle.authentication.proofs.decipher.Tie as tie
+
+expand-requires : tie.Need-expand-requires
+expand-requires c κs = search needs
+
+slice-aggregate-put : tie.Need-slice-aggregate-put
+slice-aggregate-put c = search needs
+
+put-requires : tie.Need-put-requires
+put-requires c κs = search needs
+
+slice-aggregate-cbc-decrypt : tie.Need-slice-aggregate-cbc-decrypt
+slice-aggregate-cbc-decrypt c = search needs
+
+cbc-decrypt-requires : tie.Need-cbc-decrypt-requires
+cbc-decrypt-requires c κs = search needs
+
+returns : tie.Need-returns
+unfolding deciphered
+returns c =
+    let c5 = c .before .before .before .before .before in
+    let c7 = c5 .before .before in
+    let c9 = c7 .before .before in
+    let x = c9 .args .x .now in
+    let l : length x ≡ 32 = c9 .pre in
+    let e = c5 .put .ensures ∙ laid-whole x (zeros 32) l in
+    chains-whole (c .before .cbc-decrypt .ensures) (rw (ap length e ∙ l) refl) ∙ ap₂ (λ w y. cbcBack w (zeros 16) y) (c7 .expand .ensures) e
+
+pub decipher-spec : {M : Type 1} → statement M
+decipher-spec =
+    tie.close
+    (tie.spec
+    expand-requires
+    slice-aggregate-put
+    put-requires
+    slice-aggregate-cbc-decrypt
+    cbc-decrypt-requires
+    returns)

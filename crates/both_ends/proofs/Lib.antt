@@ -1,0 +1,3 @@
+pub mod Authenticating
+pub mod Messages
+pub mod Padding
