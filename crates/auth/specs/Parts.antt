@@ -68,20 +68,21 @@ unfoldable pub partOneNext : Tag → List ℕ → List ℕ → Answer
 partOneNext t x random =
     pick (eqb (nextStatus x (t .live .on)) 0) (begun t (pendingNext (t .live) x random)) (refusal t (nextStatus x (t .live .on)))
 
--- the session that part two opens, with a TI
-unfoldable pub sessionFrom : Pending → List ℕ → List ℕ → List ℕ → Live
-sessionFrom p kx a ti =
-    record { on = true; key = p .key; enc = encKey kx a (p .«rnd_b»); mac = macKey kx a (p .«rnd_b»); ti = ti; counter = p .counter }
+-- the session that part two opens, with a TI and a CmdCtr
+unfoldable pub sessionFrom : Pending → List ℕ → List ℕ → List ℕ → ℕ → Live
+sessionFrom p kx a ti counter =
+    record { on = true; key = p .key; enc = encKey kx a (p .«rnd_b»); mac = macKey kx a (p .«rnd_b»); ti = ti; counter = counter }
 
--- part two of 71 accepted: TI, RndA', PDcap2, PCDcap2
+-- part two of 71 accepted: TI, RndA', PDcap2, PCDcap2; the session has a new TI and CmdCtr 0 (9.1.2, 9.1.5)
 unfoldable pub enteredFirst : Tag → List ℕ → List ℕ → List ℕ → Answer
 enteredFirst t kx a random =
     let ti = drop 16 random in
-    given (talking t (sessionFrom (t .pending) kx a ti) noPending) 0x9100 (firstReply kx ti a (t .pending .cap))
+    given (talking t (sessionFrom (t .pending) kx a ti 0) noPending) 0x9100 (firstReply kx ti a (t .pending .cap))
 
--- part two of 77 accepted: RndA'
+-- part two of 77 accepted: RndA'; TI and CmdCtr are the kept ones
 unfoldable pub enteredNext : Tag → List ℕ → List ℕ → Answer
-enteredNext t kx a = given (talking t (sessionFrom (t .pending) kx a (t .pending .ti)) noPending) 0x9100 (nextReply kx a)
+enteredNext t kx a =
+    given (talking t (sessionFrom (t .pending) kx a (t .pending .ti) (t .pending .counter)) noPending) 0x9100 (nextReply kx a)
 
 unfoldable pub entered : Tag → List ℕ → List ℕ → List ℕ → Answer
 entered t kx a random = pick (t .pending .first) (enteredFirst t kx a random) (enteredNext t kx a)

@@ -173,8 +173,8 @@ pub fn next(tag: Tag, x: &[u8], random: [u8; 20]) -> Done
 }
 
 // The session that part two opens.
-fn session(p: Pending, kx: [u8; 16], a: [u8; 16], ti: [u8; 4]) -> Live
-    ensures { λ r. ⌜ r ≡ sessionFrom p kx a ti ⌝ }
+fn session(p: Pending, kx: [u8; 16], a: [u8; 16], ti: [u8; 4], counter: u16) -> Live
+    ensures { λ r. ⌜ r ≡ sessionFrom p kx a ti counter ⌝ }
 {
     let b = p.rnd_b;
     let k = messaging::session_keys(kx, a, b);
@@ -186,11 +186,11 @@ fn session(p: Pending, kx: [u8; 16], a: [u8; 16], ti: [u8; 4]) -> Live
         enc,
         mac,
         ti,
-        counter: p.counter,
+        counter,
     }
 }
 
-// Part two of 71 accepted: TI, RndA', PDcap2 and PCDcap2.
+// Part two of 71 accepted: TI, RndA', PDcap2 and PCDcap2; CmdCtr is 0.
 fn enter_first(tag: Tag, kx: [u8; 16], a: [u8; 16], random: [u8; 20]) -> Done
     ensures { λ r. ⌜ Gives (enteredFirst tag kx a random) r ⌝ }
 {
@@ -198,18 +198,18 @@ fn enter_first(tag: Tag, kx: [u8; 16], a: [u8; 16], random: [u8; 20]) -> Done
     let cap = p.cap;
     let ti = ti_of(random);
     let e = messaging::first_reply(kx, ti, a, cap);
-    let l = session(p, kx, a, ti);
+    let l = session(p, kx, a, ti, 0);
     reply(talk(tag, l, state::no_pending()), 0x9100, &e)
 }
 
-// Part two of 77 accepted: RndA'.
+// Part two of 77 accepted: RndA'; CmdCtr is kept.
 fn enter_next(tag: Tag, kx: [u8; 16], a: [u8; 16]) -> Done
     ensures { λ r. ⌜ Gives (enteredNext tag kx a) r ⌝ }
 {
     let p = tag.pending;
     let ti = p.ti;
     let e = messaging::next_reply(kx, a);
-    let l = session(p, kx, a, ti);
+    let l = session(p, kx, a, ti, p.counter);
     reply(talk(tag, l, state::no_pending()), 0x9100, &e)
 }
 

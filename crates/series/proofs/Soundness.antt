@@ -60,8 +60,8 @@ unfolding entered enteredFirst enteredNext sessionFrom noPending
 fine-entered t c p kx a random =
     let k = keys-entered (t .pending .key) (keys-pending (t .live .on) (t .pending .on) (t .live .key) (t .pending .key) (c .keys) p) in
     let h = level-pending (t .place .application) (t .live .on) (t .pending .on) (t .tap .on) (t .place .file) (c .level) p in
-    way FineAfter (t .pending .first) (λ e. fine-talking t c (sessionFrom (t .pending) kx a (drop 16 random)) noPending k h)
-    (λ e. fine-talking t c (sessionFrom (t .pending) kx a (t .pending .ti)) noPending k h)
+    way FineAfter (t .pending .first) (λ e. fine-talking t c (sessionFrom (t .pending) kx a (drop 16 random) 0) noPending k h)
+    (λ e. fine-talking t c (sessionFrom (t .pending) kx a (t .pending .ti) (t .pending .counter)) noPending k h)
 
 -- ---- selects
 fine-moved : (t : Tag) → Calm t → (application : Bool) → FineAfter (moved t application)
