@@ -13,7 +13,7 @@ use Rattle.messaging.specs.Keys.{encKey, macKey}
 use Rattle.state.specs.declared.Live.{Live}
 use Rattle.state.specs.declared.Pending.{Pending}
 use Rattle.state.specs.declared.Tag.{Tag}
-use Rattle.state.specs.State.{keyIn, noLive, noPending, quieted}
+use Rattle.state.specs.State.{keyIn, noLive, noPending, talking}
 use Rattle.answer.specs.Answer.{Answer, given, refusal}
 
 -- key byte over 63: 919E; key over 4: 9140; else 0
@@ -37,11 +37,6 @@ firstStatus x application =
 -- 77, in order: length not 1 917E; no session 919D; key byte
 unfoldable pub nextStatus : List ℕ → Bool → ℕ
 nextStatus x live = pick (eqb (length x) 1) (pick live (keyStatus (byteAt x 0)) 0x919D) 0x917E
-
--- the tag with another session and pending part, and no tap
-unfoldable pub talking : Tag → Live → Pending → Tag
-talking t l p =
-    record { uid = t .uid; files = t .files; secrets = t .secrets; live = l; pending = p; place = t .place; tap = quieted (t .tap) }
 
 -- part one accepted gives E(Kx; RndB), 91AF, and ends the old session
 unfoldable pub begun : Tag → Pending → Answer

@@ -2,8 +2,9 @@
 ghost use mathlib.Core.Path.{_≡_};
 ghost use Prim.Native.Nat.{_≤_};
 ghost use lib.ListN.{length, take, drop};
+ghost use Rattle.state.specs.State.{talking};
 ghost use Rattle.answer.specs.Answer.{Gives, given};
-ghost use Rattle.auth.specs.Parts.{keyStatus, valuesStatus, firstStatus, nextStatus, talking, begun, capOf, partOneFirst, partOneNext, sessionFrom, enteredFirst, enteredNext, entered, partTwoAnswer};
+ghost use Rattle.auth.specs.Parts.{keyStatus, valuesStatus, firstStatus, nextStatus, begun, capOf, partOneFirst, partOneNext, sessionFrom, enteredFirst, enteredNext, entered, partTwoAnswer};
 use answer::Done;
 use messaging::Proof;
 use state::Live;
@@ -100,7 +101,7 @@ fn ti_of(random: [u8; 20]) -> [u8; 4]
 }
 
 // The tag with another session and pending part, and no tap.
-fn talk(tag: Tag, l: Live, p: Pending) -> Tag
+fn talking(tag: Tag, l: Live, p: Pending) -> Tag
     ensures { λ r. ⌜ r ≡ talking tag l p ⌝ }
 {
     let mut t = tag;
@@ -128,7 +129,7 @@ fn begin(tag: Tag, p: Pending) -> Done
     let keys = tag.secrets.keys;
     let b = p.rnd_b;
     let e = messaging::part_one(state::key_of(keys, p.key), b);
-    reply(talk(tag, state::no_live(), p), 0x91AF, &e)
+    reply(talking(tag, state::no_live(), p), 0x91AF, &e)
 }
 
 // Part one of 71.
@@ -199,7 +200,7 @@ fn enter_first(tag: Tag, kx: [u8; 16], a: [u8; 16], random: [u8; 20]) -> Done
     let ti = ti_of(random);
     let e = messaging::first_reply(kx, ti, a, cap);
     let l = session(p, kx, a, ti, 0);
-    reply(talk(tag, l, state::no_pending()), 0x9100, &e)
+    reply(talking(tag, l, state::no_pending()), 0x9100, &e)
 }
 
 // Part two of 77 accepted: RndA'; CmdCtr is kept.
@@ -210,7 +211,7 @@ fn enter_next(tag: Tag, kx: [u8; 16], a: [u8; 16]) -> Done
     let ti = p.ti;
     let e = messaging::next_reply(kx, a);
     let l = session(p, kx, a, ti, p.counter);
-    reply(talk(tag, l, state::no_pending()), 0x9100, &e)
+    reply(talking(tag, l, state::no_pending()), 0x9100, &e)
 }
 
 // Part two with the right RndB'.

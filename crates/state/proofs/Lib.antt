@@ -1,2 +1,3 @@
+pub mod Births
 pub mod Strings
 pub mod Truth
