@@ -1,6 +1,6 @@
 /* Plays a log through the image, with mainspur.h alone: a UID, then command, reply and random bytes, a line of hexadecimal
  * each, on standard input. Before the first exchange and after the last it tries every refusal, and that image and room
- * stay; before the log it plays part two on images with a counter in the pending part. Prints what differs, and last 'N exchanges, M differ'; the status is 1 where something differs. */
+ * stay; before the log it judges stored lengths and plays part two on images with a counter in the pending part. Prints what differs, and last 'N exchanges, M differ'; the status is 1 where something differs. */
 #include "mainspur.h"
 
 /* of the C library */
@@ -155,6 +155,22 @@ static void settings_strings(void) {
     expect(mainspur_settings_check(2, good, 15) == 0x919E, "MAC offset 63");
 }
 
+/* A good settings string of 27 bytes in file 2: sound with its length, not with a stored length of 28 or 255. */
+static void stored_lengths(void) {
+    static const byte uid[7] = {4, 1, 2, 3, 4, 5, 6}, select[] = {0x00, 0xA4, 0x00, 0x0C, 0x02, 0xE1, 0x10}, random[20] = {7};
+    static const byte longest[27] = {0x40, 0xE0, 0xEE, 0xF1, 0xF1, 0xE1, 0, 0, 0, 0x10, 0, 0, 0x20, 0,
+                                     0,    0x20, 0,    0,    0x20, 0,    0, 0x40, 0, 0, 5, 0, 0};
+    byte image[IMAGE], now[IMAGE], room[BIG];
+    expect(mainspur_settings_check(2, longest, 27) == 0x9100, "a settings string of 27 bytes");
+    expect(mainspur_fresh(uid, 7, image, IMAGE) == 0, "a fresh tag for stored lengths");
+    copy(image + 451, longest, 27);
+    image[506] = 27;
+    copy(now, image, IMAGE);
+    expect(mainspur_call(now, IMAGE, select, sizeof select, random, 20, room, BIG) == 2, "a stored length of 27");
+    unsound(image, 506, 28, "a stored length of 28");
+    unsound(image, 506, 255, "a stored length of 255");
+}
+
 /* Part two on an image that holds a pending part of 71 (first is 1) or 77 with counter 0x0105 and TI A1 A2 A3 A4: 71 opens a
  * session with CmdCtr 0 and TI from the random bytes, 77 keeps both. Key 0 is zeros; the command is E(key 0; RndA, RndB'), with
  * RndA 00 to 0F and RndB 10 to 1F. */
@@ -185,6 +201,7 @@ int main(void) {
     while (text_length < TEXT && (n = read(0, text + text_length, TEXT - text_length)) > 0) text_length += (mainspur_size)n;
     fresh_refusals();
     settings_strings();
+    stored_lengths();
     part_two(1);
     part_two(0);
     n = next_line(uid, sizeof uid);
