@@ -1,6 +1,6 @@
 /* Plays a log through the image, with mainspur.h alone: a UID, then command, reply and random bytes, a line of hexadecimal
  * each, on standard input. Before the first exchange and after the last it tries every refusal, and that image and room
- * stay. Prints what differs, and last 'N exchanges, M differ'; the status is 1 where something differs. */
+ * stay; before the log it judges stored lengths and plays part two on images with a counter in the pending part. Prints what differs, and last 'N exchanges, M differ'; the status is 1 where something differs. */
 #include "mainspur.h"
 
 /* of the C library */
@@ -155,6 +155,45 @@ static void settings_strings(void) {
     expect(mainspur_settings_check(2, good, 15) == 0x919E, "MAC offset 63");
 }
 
+/* A good settings string of 27 bytes in file 2: sound with its length, not with a stored length of 28 or 255. */
+static void stored_lengths(void) {
+    static const byte uid[7] = {4, 1, 2, 3, 4, 5, 6}, select[] = {0x00, 0xA4, 0x00, 0x0C, 0x02, 0xE1, 0x10}, random[20] = {7};
+    static const byte longest[27] = {0x40, 0xE0, 0xEE, 0xF1, 0xF1, 0xE1, 0, 0, 0, 0x10, 0, 0, 0x20, 0,
+                                     0,    0x20, 0,    0,    0x20, 0,    0, 0x40, 0, 0, 5, 0, 0};
+    byte image[IMAGE], now[IMAGE], room[BIG];
+    expect(mainspur_settings_check(2, longest, 27) == 0x9100, "a settings string of 27 bytes");
+    expect(mainspur_fresh(uid, 7, image, IMAGE) == 0, "a fresh tag for stored lengths");
+    copy(image + 451, longest, 27);
+    image[506] = 27;
+    copy(now, image, IMAGE);
+    expect(mainspur_call(now, IMAGE, select, sizeof select, random, 20, room, BIG) == 2, "a stored length of 27");
+    unsound(image, 506, 28, "a stored length of 28");
+    unsound(image, 506, 255, "a stored length of 255");
+}
+
+/* Part two on an image that holds a pending part of 71 (first is 1) or 77 with counter 0x0105 and TI A1 A2 A3 A4: 71 opens a
+ * session with CmdCtr 0 and TI from the random bytes, 77 keeps both. Key 0 is zeros; the command is E(key 0; RndA, RndB'), with
+ * RndA 00 to 0F and RndB 10 to 1F. */
+static void part_two(byte first) {
+    static const byte uid[7] = {4, 1, 2, 3, 4, 5, 6}, random[20] = {[16] = 0xB1, 0xB2, 0xB3, 0xB4};
+    static const byte kept[6] = {0xA1, 0xA2, 0xA3, 0xA4, 0x05, 0x01}, opened[6] = {0xB1, 0xB2, 0xB3, 0xB4, 0, 0};
+    static const byte command[38] = {0x90, 0xAF, 0, 0, 32, 0x7A, 0xCA, 0x0F, 0xD9, 0xBC, 0xD6, 0xEC, 0x7C, 0x9F, 0x97,
+                                     0x46, 0x66, 0x16, 0xE6, 0xA2, 0x82, 0xCD, 0xF2, 0x9E, 0xAD, 0x8D, 0xFE, 0x62, 0x2D,
+                                     0xF8, 0xBF, 0x97, 0x97, 0x25, 0xEF, 0xF1, 0x31, 0};
+    byte image[IMAGE], room[BIG];
+    mainspur_size n = first ? 34 : 18;
+    expect(mainspur_fresh(uid, 7, image, IMAGE) == 0, "a fresh tag for part two");
+    image[633] = 1; /* a pending part two, of key 0 */
+    image[634] = first;
+    for (int i = 0; i < 16; i++) image[636 + i] = (byte)(0x10 + i);
+    copy(image + 658, kept, 6);
+    image[664] = 1; /* the application */
+    expect(mainspur_call(image, IMAGE, command, sizeof command, random, 20, room, BIG) == n, "the length of part two's reply");
+    expect(room[n - 2] == 0x91 && room[n - 1] == 0x00, "the status of part two");
+    expect(image[593] == 1 && image[633] == 0, "a session after part two");
+    expect(same(image + 627, first ? opened : kept, 6), first ? "TI and CmdCtr after 71" : "TI and CmdCtr after 77");
+}
+
 int main(void) {
     byte uid[16], image[IMAGE], command[BIG], reply[BIG], random[BIG], room[BIG], blank[BIG];
     unsigned long exchanges = 0, wrong = 0;
@@ -162,6 +201,9 @@ int main(void) {
     while (text_length < TEXT && (n = read(0, text + text_length, TEXT - text_length)) > 0) text_length += (mainspur_size)n;
     fresh_refusals();
     settings_strings();
+    stored_lengths();
+    part_two(1);
+    part_two(0);
     n = next_line(uid, sizeof uid);
     expect(n >= 0 && mainspur_fresh(uid, (mainspur_size)n, image, IMAGE) == 0, "the fresh tag");
     if (differ) return 1;

@@ -18,6 +18,7 @@ use Rattle.messaging.specs.declared.Closed.{Closed}
 use Rattle.messaging.specs.declared.Closed.the-variants.{Reply, Over, Small}
 use Rattle.messaging.proofs.Closing.{short}
 use Rattle.both_ends.proofs.Messages.{closed-length}
+use Rattle.state.specs.State.{talking}
 use Rattle.state.specs.declared.Tag.{Tag}
 use Rattle.answer.specs.Answer.{given, refusal, raised, sessionOf, afterwards, accepted, answerOf, Gives}
 
@@ -73,7 +74,7 @@ module _ (t : Tag) (m : Mode) (s : Session) (old new : List ℕ) (k : ℕ) (x : 
 
   reply-given : (u : Tag) (r : ℕ) → x ≡ Reply r → length (s .enc) ≡ 16 → AllBytes (s .enc) → AllBytes old → u ≡ afterwards t
       → s ≡ sessionOf (u .live) → Gives (accepted t m (take k old)) (record { status = 0x9100; length = r; bytes = new; tag = u })
-  unfolding closing closedIn afterwards answerOf
+  unfolding closing closedIn afterwards answerOf talking
   reply-given u r e n b h g i =
       let d = take k old in
       let w = reply-told (overlong m k) (ltb (length old) (closedLength m k)) r (closedLength m k) old (over (closed s m 0 d) old) new (sym e ∙ c .answer) (c .room) in

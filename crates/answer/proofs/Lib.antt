@@ -2,3 +2,4 @@ pub mod Accepting
 pub mod Counting
 pub mod Parts
 pub mod Showing
+pub mod Equal

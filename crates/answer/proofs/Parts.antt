@@ -14,11 +14,11 @@ use Rattle.base.specs.Bytes.{laid}
 use Rattle.base.proofs.Bytes.{le-or-lt, laid-front, laid-not}
 use Rattle.state.specs.declared.Files.{Files}
 use Rattle.state.specs.declared.Tag.{Tag}
-use Rattle.state.specs.State.{startOf, sizeOf, fileOf}
+use Rattle.state.specs.State.{startOf, sizeOf, fileOf, tapped}
 use Rattle.answer.specs.declared.Part.{Part}
 use Rattle.answer.specs.declared.Shown.{Shown}
 use Rattle.answer.specs.Answer.{given, refusal}
-use Rattle.answer.specs.Filing.{partOf, tapped, tapRead, withBytes}
+use Rattle.answer.specs.Filing.{partOf, tapRead, withBytes}
 use Rattle.answer.proofs.Counting.{pick-true, pick-false}
 
 -- ---- parts of a list

@@ -1,17 +1,18 @@
 -- What a command is answered: status, data, and the next state.
+use mathlib.Core.Bool.{Bool}
 use mathlib.Core.List.{List, []}
 use mathlib.Core.Path.{_≡_}
 use Prim.Native.Nat.{ℕ, _+_, _≤_}
-use lib.Dec.{ltb}
+use lib.Dec.{eqb, ltb}
 use lib.ListN.{length, take}
-use Rattle.base.specs.Decide.{pick}
+use Rattle.base.specs.Decide.{pick, and}
 use Rattle.messaging.specs.declared.Mode.{Mode}
 use Rattle.messaging.specs.declared.Session.{Session}
 use Rattle.messaging.specs.declared.Closed.the-variants.{Over}
 use Rattle.messaging.specs.Reply.{closed, overlong, closedStatus}
 use Rattle.state.specs.declared.Live.{Live}
 use Rattle.state.specs.declared.Tag.{Tag}
-use Rattle.state.specs.State.{quieted, endedOf}
+use Rattle.state.specs.State.{talking, endedOf}
 use Rattle.answer.specs.declared.Done.{Done}
 
 pub record Answer : Type 0 where
@@ -26,7 +27,11 @@ given t s d = record { status = s; text = d; tag = t }
 unfoldable pub refusal : Tag → ℕ → Answer
 refusal t s = given (endedOf t) s []
 
--- CmdCtr rises by one in session (01, step 7, sees to it that it can)
+-- in session with CmdCtr 65,535
+abbrev pub usedUp : Bool → ℕ → Bool
+usedUp on counter = and on (eqb counter 65535)
+
+-- CmdCtr rises by one in session. 01, step 7, sees to it that it can: no accepted command gets here with 65,535, which stays
 unfoldable pub raised : Live → Live
 raised l =
     record {
@@ -43,16 +48,7 @@ sessionOf l = record { enc = l .enc; mac = l .mac; ti = l .ti; counter = l .coun
 
 -- the tag after an accepted command that is no tap: CmdCtr has risen, and no tap runs
 unfoldable pub afterwards : Tag → Tag
-afterwards t =
-    record {
-      uid = t .uid;
-      files = t .files;
-      secrets = t .secrets;
-      live = raised (t .live);
-      pending = t .pending;
-      place = t .place;
-      tap = quieted (t .tap);
-    }
+afterwards t = talking t (raised (t .live)) (t .pending)
 
 -- An accepted command: its data closed in its mode under the raised CmdCtr; over 256 bytes with its MAC: 917E
 unfoldable pub accepted : Tag → Mode → List ℕ → Answer
@@ -60,7 +56,7 @@ accepted t m d =
     pick (overlong m (length d)) (refusal t (closedStatus Over))
     (given (afterwards t) 0x9100 (closed (sessionOf (raised (t .live))) m 0 d))
 
--- what the code's answer says
+-- of the code, not the paper: what its answer says, data in a buffer of 258 bytes, of which at most 256 count
 unfoldable pub answerOf : Done → Answer
 answerOf d = given (d .tag) (d .status) (take (d .length) (d .bytes))
 

@@ -1,4 +1,4 @@
--- 01, "Files": the part of a file that a read gives, and the tag with other files or another tap.
+-- 01, "Files": the part of a file that a read gives, and the files with other bytes.
 use mathlib.Core.List.{List}
 use Prim.Native.Nat.{ℕ, _+_, min}
 use lib.Dec.{eqb}
@@ -8,13 +8,13 @@ use Rattle.base.specs.Bytes.{laid}
 use Rattle.messaging.specs.declared.Mode.{Mode}
 use Rattle.state.specs.declared.Files.{Files}
 use Rattle.state.specs.declared.Tag.{Tag}
-use Rattle.state.specs.declared.Tapping.{Tapping}
-use Rattle.state.specs.State.{startOf, fileOf}
+use Rattle.state.specs.State.{startOf, fileOf, tapped}
 use Rattle.answer.specs.declared.Part.{Part}
 use Rattle.answer.specs.declared.Shown.{Shown}
 use Rattle.answer.specs.Answer.{Answer, given, refusal, accepted, afterwards}
 
--- the part of a text from an offset on, so many bytes of it, at most 256, at the front of a room
+-- of the code, not the paper: the part of a text from an offset on, so many bytes of it, at the front of the buffer that holds a
+-- reply's data (258 bytes, of which data take at most 256)
 unfoldable pub partOf : List ℕ → ℕ → ℕ → Part
 partOf text at count =
     let x = take (min count 256) (drop at text) in
@@ -27,9 +27,6 @@ stored t m n at count = accepted t m (take count (drop at (fileOf (t .files) n))
 unfoldable pub storedIso : Tag → ℕ → ℕ → ℕ → Answer
 storedIso t n at count = given (afterwards t) 0x9000 (take count (drop at (fileOf (t .files) n)))
 
-unfoldable pub tapped : Tag → Tapping → Tag
-tapped t p = record { uid = t .uid; files = t .files; secrets = t .secrets; live = t .live; pending = t .pending; place = t .place; tap = p }
-
 -- a tap gives the mirrored file's part under the accepting status, or is refused
 unfoldable pub tapRead : Tag → Shown → ℕ → ℕ → ℕ → ℕ → Answer
 tapRead t s accepting refusing at count =
@@ -38,6 +35,3 @@ tapRead t s accepting refusing at count =
 -- the files with other bytes from an offset of file n on
 unfoldable pub withBytes : Files → ℕ → ℕ → List ℕ → Files
 withBytes f n at p = record { bytes = laid p (startOf n + at) (f .bytes); rules = f .rules; lens = f .lens }
-
-unfoldable pub filed : Tag → Files → Tag
-filed t f = record { uid = t .uid; files = f; secrets = t .secrets; live = t .live; pending = t .pending; place = t .place; tap = t .tap }

@@ -15,6 +15,10 @@ use Rattle.state.specs.declared.Tapping.{Tapping}
 use Rattle.state.specs.State.{fileOf, keyIn}
 use Rattle.answer.specs.declared.Shown.{Shown}
 
+-- an unauthenticated read of an SDM-enabled file
+abbrev pub isTap : Bool → Bool → Bool
+isTap sdm live = and sdm (not live)
+
 -- the last command was such an accepted read, by the same command
 unfoldable pub goesOn : Tapping → Bool → Bool
 goesOn t iso = and (t .on) (pick iso (t .iso) (not (t .iso)))
@@ -24,7 +28,7 @@ unfoldable pub startStatus : Bool → ℕ → Bool → ℕ → ℕ
 startStatus going counter limited limit =
     pick going 0 (pick (and limited (leb limit counter)) 0x919D (pick (leb 16777215 counter) 0x911E 0))
 
--- a start adds one
+-- a start adds one; `startStatus` refuses one at 16,777,215, so no state that the tag reaches gets here with it, and it stays
 unfoldable pub counted : Bool → ℕ → ℕ
 counted going counter = pick going counter (pick (ltb counter 16777215) (counter + 1) counter)
 
@@ -38,10 +42,11 @@ mirrorFor t h counter random =
       random = random;
     }
 
+-- a tap that is refused: nothing is shown, and zeros fill the code's buffer
 abbrev pub notShown : ℕ → Tapping → Shown
 notShown s t = record { status = s; tap = t; bytes = replicate 256 0 }
 
--- a span that does not end inside the file: 919E (a sound state never gets there)
+-- a span that does not end inside the file: no sound state gets here, and 919E stands in
 abbrev pub showing : Tapping → Bool → ℕ → Laid → Shown
 showing t iso counter l =
     pick (l .inside) (record { status = 0; tap = record { on = true; iso = iso; counter = counter }; bytes = l .bytes }) (notShown 0x919E t)

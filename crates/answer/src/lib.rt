@@ -2,7 +2,7 @@
 ghost use mathlib.Core.Path.{_≡_};
 ghost use Prim.Native.Nat.{min};
 ghost use lib.ListN.{take};
-ghost use Rattle.answer.specs.Answer.{Gives, refusal, given, accepted, sessionOf, raised, afterwards};
+ghost use Rattle.answer.specs.Answer.{Gives, refusal, given, accepted, sessionOf, usedUp, raised, afterwards};
 
 mod filing;
 mod taps;
@@ -17,6 +17,7 @@ use messaging::Session;
 use state::Live;
 use state::Tag;
 use state::Tapping;
+pub use taps::is_tap;
 pub use taps::show;
 
 // An answer: the status, as many bytes of data as the length says, and the next state.
@@ -72,6 +73,16 @@ pub fn give(tag: Tag, status: u16, bytes: [u8; 258], n: usize) -> Done
         bytes,
         tag,
     }
+}
+
+// In session with CmdCtr used up.
+pub fn used_up(on: bool, counter: u16) -> bool
+    ensures { λ r. ⌜ r ≡ usedUp on counter ⌝ }
+{
+    if on {
+        return counter == 65535;
+    }
+    false
 }
 
 // CmdCtr rises by one in session.

@@ -1,7 +1,7 @@
 // A tap (9.3): where it starts, the limit and the end of the counter, and the mirrored file.
 ghost use mathlib.Core.Path.{_≡_};
 ghost use Rattle.state.specs.State.{fileOf};
-ghost use Rattle.answer.specs.Taps.{goesOn, startStatus, counted, mirrorFor, notShown, shown};
+ghost use Rattle.answer.specs.Taps.{isTap, goesOn, startStatus, counted, mirrorFor, notShown, shown};
 use crate::Shown;
 use mirror::Mirror;
 use sdm::Tap;
@@ -10,6 +10,16 @@ use settings::Reading;
 use state::Files;
 use state::Tag;
 use state::Tapping;
+
+// A read is a tap where SDM is on and there is no session.
+pub fn is_tap(sdm: bool, live: bool) -> bool
+    ensures { λ r. ⌜ r ≡ isTap sdm live ⌝ }
+{
+    if sdm {
+        return !live;
+    }
+    false
+}
 
 // Whether a tap by the same read command runs already.
 fn goes_on(t: Tapping, iso: bool) -> bool

@@ -17,9 +17,6 @@ use Rattle.answer.specs.declared.Done.{Done}
 use Rattle.answer.specs.Answer.{Answer, Gives, refusal}
 use Rattle.auth.specs.Parts.{entered, byProof, partTwoAnswer}
 
-pub gives-as : {a b : Answer} {r : Done} → Gives a r → a ≡ b → Gives b r
-gives-as {r = r} g e = subst (λ x. Gives x r) e g
-
 -- what is laid into an empty room, at most 256 bytes, is given whole
 pub given-whole : (s b : List ℕ) → length s ≤ 256 → b ≡ laid s 0 (replicate 258 0) → take (min (length s) 256) b ≡ s
 given-whole s b l e =

@@ -13,7 +13,7 @@ use Rattle.session_keys.specs.Keys.{encKey, macKey}
 use Rattle.state.specs.declared.Live.{Live}
 use Rattle.state.specs.declared.Pending.{Pending}
 use Rattle.state.specs.declared.Tag.{Tag}
-use Rattle.state.specs.State.{keyIn, noLive, noPending, quieted}
+use Rattle.state.specs.State.{keyIn, noLive, noPending, talking}
 use Rattle.answer.specs.Answer.{Answer, given, refusal}
 
 -- key byte over 63: 919E; key over 4: 9140; else 0
@@ -37,11 +37,6 @@ firstStatus x application =
 -- 77, in order: length not 1 917E; no session 919D; key byte
 unfoldable pub nextStatus : List ℕ → Bool → ℕ
 nextStatus x live = pick (eqb (length x) 1) (pick live (keyStatus (byteAt x 0)) 0x919D) 0x917E
-
--- the tag with another session and pending part, and no tap
-unfoldable pub talking : Tag → Live → Pending → Tag
-talking t l p =
-    record { uid = t .uid; files = t .files; secrets = t .secrets; live = l; pending = p; place = t .place; tap = quieted (t .tap) }
 
 -- part one accepted gives E(Kx; RndB), 91AF, and ends the old session
 unfoldable pub begun : Tag → Pending → Answer
@@ -68,20 +63,21 @@ unfoldable pub partOneNext : Tag → List ℕ → List ℕ → Answer
 partOneNext t x random =
     pick (eqb (nextStatus x (t .live .on)) 0) (begun t (pendingNext (t .live) x random)) (refusal t (nextStatus x (t .live .on)))
 
--- the session that part two opens, with a TI
-unfoldable pub sessionFrom : Pending → List ℕ → List ℕ → List ℕ → Live
-sessionFrom p kx a ti =
-    record { on = true; key = p .key; enc = encKey kx a (p .«rnd_b»); mac = macKey kx a (p .«rnd_b»); ti = ti; counter = p .counter }
+-- the session that part two opens, with a TI and a CmdCtr
+unfoldable pub sessionFrom : Pending → List ℕ → List ℕ → List ℕ → ℕ → Live
+sessionFrom p kx a ti counter =
+    record { on = true; key = p .key; enc = encKey kx a (p .«rnd_b»); mac = macKey kx a (p .«rnd_b»); ti = ti; counter = counter }
 
--- part two of 71 accepted: TI, RndA', PDcap2, PCDcap2
+-- part two of 71 accepted: TI, RndA', PDcap2, PCDcap2; the session has a new TI and CmdCtr 0 (9.1.2, 9.1.5)
 unfoldable pub enteredFirst : Tag → List ℕ → List ℕ → List ℕ → Answer
 enteredFirst t kx a random =
     let ti = drop 16 random in
-    given (talking t (sessionFrom (t .pending) kx a ti) noPending) 0x9100 (firstReply kx ti a (t .pending .cap))
+    given (talking t (sessionFrom (t .pending) kx a ti 0) noPending) 0x9100 (firstReply kx ti a (t .pending .cap))
 
--- part two of 77 accepted: RndA'
+-- part two of 77 accepted: RndA'; TI and CmdCtr are the kept ones
 unfoldable pub enteredNext : Tag → List ℕ → List ℕ → Answer
-enteredNext t kx a = given (talking t (sessionFrom (t .pending) kx a (t .pending .ti)) noPending) 0x9100 (nextReply kx a)
+enteredNext t kx a =
+    given (talking t (sessionFrom (t .pending) kx a (t .pending .ti) (t .pending .counter)) noPending) 0x9100 (nextReply kx a)
 
 unfoldable pub entered : Tag → List ℕ → List ℕ → List ℕ → Answer
 entered t kx a random = pick (t .pending .first) (enteredFirst t kx a random) (enteredNext t kx a)

@@ -2,8 +2,9 @@
 ghost use mathlib.Core.Path.{_≡_};
 ghost use Prim.Native.Nat.{_≤_};
 ghost use lib.ListN.{length, take, drop};
+ghost use Rattle.state.specs.State.{talking};
 ghost use Rattle.answer.specs.Answer.{Gives, given};
-ghost use Rattle.auth.specs.Parts.{keyStatus, valuesStatus, firstStatus, nextStatus, talking, begun, capOf, partOneFirst, partOneNext, sessionFrom, enteredFirst, enteredNext, entered, partTwoAnswer};
+ghost use Rattle.auth.specs.Parts.{keyStatus, valuesStatus, firstStatus, nextStatus, begun, capOf, partOneFirst, partOneNext, sessionFrom, enteredFirst, enteredNext, entered, partTwoAnswer};
 use answer::Done;
 use authentication::Proof;
 use state::Live;
@@ -100,7 +101,7 @@ fn ti_of(random: [u8; 20]) -> [u8; 4]
 }
 
 // The tag with another session and pending part, and no tap.
-fn talk(tag: Tag, l: Live, p: Pending) -> Tag
+fn talking(tag: Tag, l: Live, p: Pending) -> Tag
     ensures { λ r. ⌜ r ≡ talking tag l p ⌝ }
 {
     let mut t = tag;
@@ -128,7 +129,7 @@ fn begin(tag: Tag, p: Pending) -> Done
     let keys = tag.secrets.keys;
     let b = p.rnd_b;
     let e = authentication::part_one(state::key_of(keys, p.key), b);
-    reply(talk(tag, state::no_live(), p), 0x91AF, &e)
+    reply(talking(tag, state::no_live(), p), 0x91AF, &e)
 }
 
 // Part one of 71.
@@ -173,8 +174,8 @@ pub fn next(tag: Tag, x: &[u8], random: [u8; 20]) -> Done
 }
 
 // The session that part two opens.
-fn session(p: Pending, kx: [u8; 16], a: [u8; 16], ti: [u8; 4]) -> Live
-    ensures { λ r. ⌜ r ≡ sessionFrom p kx a ti ⌝ }
+fn session(p: Pending, kx: [u8; 16], a: [u8; 16], ti: [u8; 4], counter: u16) -> Live
+    ensures { λ r. ⌜ r ≡ sessionFrom p kx a ti counter ⌝ }
 {
     let b = p.rnd_b;
     let k = session_keys::session_keys(kx, a, b);
@@ -186,11 +187,11 @@ fn session(p: Pending, kx: [u8; 16], a: [u8; 16], ti: [u8; 4]) -> Live
         enc,
         mac,
         ti,
-        counter: p.counter,
+        counter,
     }
 }
 
-// Part two of 71 accepted: TI, RndA', PDcap2 and PCDcap2.
+// Part two of 71 accepted: TI, RndA', PDcap2 and PCDcap2; CmdCtr is 0.
 fn enter_first(tag: Tag, kx: [u8; 16], a: [u8; 16], random: [u8; 20]) -> Done
     ensures { λ r. ⌜ Gives (enteredFirst tag kx a random) r ⌝ }
 {
@@ -198,19 +199,19 @@ fn enter_first(tag: Tag, kx: [u8; 16], a: [u8; 16], random: [u8; 20]) -> Done
     let cap = p.cap;
     let ti = ti_of(random);
     let e = authentication::first_reply(kx, ti, a, cap);
-    let l = session(p, kx, a, ti);
-    reply(talk(tag, l, state::no_pending()), 0x9100, &e)
+    let l = session(p, kx, a, ti, 0);
+    reply(talking(tag, l, state::no_pending()), 0x9100, &e)
 }
 
-// Part two of 77 accepted: RndA'.
+// Part two of 77 accepted: RndA'; CmdCtr is kept.
 fn enter_next(tag: Tag, kx: [u8; 16], a: [u8; 16]) -> Done
     ensures { λ r. ⌜ Gives (enteredNext tag kx a) r ⌝ }
 {
     let p = tag.pending;
     let ti = p.ti;
     let e = authentication::next_reply(kx, a);
-    let l = session(p, kx, a, ti);
-    reply(talk(tag, l, state::no_pending()), 0x9100, &e)
+    let l = session(p, kx, a, ti, p.counter);
+    reply(talking(tag, l, state::no_pending()), 0x9100, &e)
 }
 
 // Part two with the right RndB'.

@@ -12,11 +12,11 @@ use Rattle.state.specs.declared.Live.{Live}
 use Rattle.state.specs.declared.Tag.{Tag}
 use Rattle.state.specs.declared.Access.{Access}
 use Rattle.state.specs.declared.Access.the-variants.{In, Never, Denied}
-use Rattle.state.specs.State.{sizeOf, readingIn}
+use Rattle.state.specs.State.{sizeOf, readingIn, filed}
 use Rattle.state.specs.Access.{accessFor}
-use Rattle.answer.specs.Answer.{Answer, given, refusal, afterwards}
-use Rattle.answer.specs.Taps.{shown}
-use Rattle.answer.specs.Filing.{storedIso, tapRead, withBytes, filed}
+use Rattle.answer.specs.Answer.{Answer, given, refusal, usedUp, afterwards}
+use Rattle.answer.specs.Taps.{isTap, shown}
+use Rattle.answer.specs.Filing.{storedIso, tapRead, withBytes}
 
 -- a mode other than Plain in session is refused
 abbrev pub isPlain : Mode → Bool
@@ -31,20 +31,20 @@ plainly Denied = false
 
 -- access 6982, also CmdCtr full
 unfoldable pub mayPass : Live → Access → Bool
-mayPass l a = and (not (and (l .on) (eqb (l .counter) 65535))) (plainly a)
+mayPass l a = and (not (usedUp (l .on) (l .counter))) (plainly a)
 
 -- the selected file, read as by ReadData (AD) or written as by WriteData (8D)
 unfoldable pub mayUse : Tag → ℕ → Bool
 mayUse t ins = mayPass (t .live) (accessFor ins (t .live) (readingIn (t .files) (t .place .file) .settings .head))
 
--- a tap that can't start is 6982; a span outside the file 6A86
+-- a tap that can't start is 6982; a span outside the file, to which no sound state gets, is 6A86
 unfoldable pub tapStatus : ℕ → ℕ
 tapStatus s = pick (eqb s 0x919E) 0x6A86 0x6982
 
 -- what is read of file n, of which r are the settings: a tap where SDM is on and there is no session, else the stored bytes
-unfoldable pub readPart : Tag → Reading → ℕ → ℕ → ℕ → List ℕ → Answer
-readPart t r n at count random =
-    pick (and (r .settings .head .sdm) (not (t .live .on)))
+unfoldable pub isoPart : Tag → Reading → ℕ → ℕ → ℕ → List ℕ → Answer
+isoPart t r n at count random =
+    pick (isTap (r .settings .head .sdm) (t .live .on))
     (tapRead t (shown t r true random) 0x9000 (tapStatus (shown t r true random .status)) at count)
     (storedIso t n at count)
 
@@ -53,7 +53,7 @@ unfoldable pub readRange : Tag → ℕ → ℕ → ℕ → List ℕ → Answer
 readRange t n at le random =
     let left = sizeOf n - at in
     pick (leb (sizeOf n) at) (refusal t 0x6A86)
-    (pick (ltb left le) (refusal t (0x6C00 + left % 256)) (readPart t (readingIn (t .files) n) n at (pick (eqb le 0) left le) random))
+    (pick (ltb left le) (refusal t (0x6C00 + left % 256)) (isoPart t (readingIn (t .files) n) n at (pick (eqb le 0) left le) random))
 
 unfoldable pub readBinary : Tag → ℕ → ℕ → List ℕ → Answer
 readBinary t at le random = pick (mayUse t 0xAD) (readRange t (t .place .file) at le random) (refusal t 0x6982)

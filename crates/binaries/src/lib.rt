@@ -4,23 +4,13 @@ ghost use mathlib.Core.Bool.{not};
 ghost use lib.Dec.{eqb};
 ghost use Rattle.base.specs.Decide.{pick, and};
 ghost use Rattle.answer.specs.Answer.{Gives};
-ghost use Rattle.binaries.specs.Binaries.{isPlain, plainly, mayPass, mayUse, tapStatus, readPart, readRange, readBinary, updateRange, updatedBinary};
+ghost use Rattle.binaries.specs.Binaries.{isPlain, plainly, mayPass, mayUse, tapStatus, isoPart, readRange, readBinary, updateRange, updatedBinary};
 use answer::Done;
 use messaging::Mode;
 use settings::Reading;
 use state::Access;
 use state::Live;
 use state::Tag;
-
-// In session with CmdCtr used up.
-fn used_up(on: bool, counter: u16) -> bool
-    ensures { λ r. ⌜ r ≡ and on (eqb counter 65535) ⌝ }
-{
-    if on {
-        return counter == 65535;
-    }
-    false
-}
 
 fn is_plain(m: Mode) -> bool
     ensures { λ r. ⌜ r ≡ isPlain m ⌝ }
@@ -46,7 +36,7 @@ fn granted_plain(a: Access) -> bool
 fn may(l: Live, a: Access) -> bool
     ensures { λ r. ⌜ r ≡ mayPass l a ⌝ }
 {
-    if used_up(l.on, l.counter) {
+    if answer::used_up(l.on, l.counter) {
         return false;
     }
     granted_plain(a)
@@ -72,21 +62,11 @@ fn tap_status(s: u16) -> u16
     0x6982
 }
 
-// A read is a tap where SDM is on and there is no session.
-fn is_tap(sdm: bool, live: bool) -> bool
-    ensures { λ r. ⌜ r ≡ and sdm (not live) ⌝ }
-{
-    if sdm {
-        return !live;
-    }
-    false
-}
-
 // A part of the selected file n that is there.
-fn read_part(tag: Tag, reading: Reading, n: u8, at: usize, count: usize, random: [u8; 20]) -> Done
-    ensures { λ r. ⌜ Gives (readPart tag reading n at count random) r ⌝ }
+fn iso_part(tag: Tag, reading: Reading, n: u8, at: usize, count: usize, random: [u8; 20]) -> Done
+    ensures { λ r. ⌜ Gives (isoPart tag reading n at count random) r ⌝ }
 {
-    if is_tap(reading.settings.head.sdm, tag.live.on) {
+    if answer::is_tap(reading.settings.head.sdm, tag.live.on) {
         let s = answer::show(tag, reading, true, random);
         return answer::read_tap(tag, s, 0x9000, tap_status(s.status), at, count);
     }
@@ -116,7 +96,7 @@ fn read_range(tag: Tag, n: u8, at: usize, le: usize, random: [u8; 20]) -> Done
         return answer::refuse(tag, 0x6C00 + (left % 256) as u16);
     }
     let reading = state::reading_of(tag.files, n);
-    read_part(tag, reading, n, at, all_or(le, left), random)
+    iso_part(tag, reading, n, at, all_or(le, left), random)
 }
 
 // ISOReadBinary of the selected file.

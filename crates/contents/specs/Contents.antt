@@ -9,10 +9,10 @@ use Rattle.settings.specs.declared.Reading.{Reading}
 use Rattle.settings.specs.Fields.{three}
 use Rattle.messaging.specs.declared.Mode.{Mode}
 use Rattle.state.specs.declared.Tag.{Tag}
-use Rattle.state.specs.State.{sizeOf, readingIn}
+use Rattle.state.specs.State.{sizeOf, readingIn, filed}
 use Rattle.answer.specs.Answer.{Answer, refusal, accepted}
-use Rattle.answer.specs.Taps.{shown}
-use Rattle.answer.specs.Filing.{stored, tapRead, withBytes, filed}
+use Rattle.answer.specs.Taps.{isTap, shown}
+use Rattle.answer.specs.Filing.{stored, tapRead, withBytes}
 
 -- offset at or past the end, or offset plus length past it: 919E
 unfoldable pub rangeStatus : ℕ → ℕ → ℕ → ℕ
@@ -23,9 +23,9 @@ unfoldable pub asked : ℕ → ℕ → ℕ → ℕ
 asked at count size = pick (eqb count 0) (size - at) count
 
 -- what is read of file n, of which r are the settings: a tap where SDM is on and there is no session, else the stored bytes
-unfoldable pub readPart : Tag → Reading → ℕ → ℕ → ℕ → Mode → List ℕ → Answer
-readPart t r n at count m random =
-    pick (and (r .settings .head .sdm) (not (t .live .on)))
+unfoldable pub wrappedPart : Tag → Reading → ℕ → ℕ → ℕ → Mode → List ℕ → Answer
+wrappedPart t r n at count m random =
+    pick (isTap (r .settings .head .sdm) (t .live .on))
     (tapRead t (shown t r false random) 0x9100 (shown t r false random .status) at count)
     (stored t m n at count)
 
@@ -33,7 +33,7 @@ readPart t r n at count m random =
 unfoldable pub readData : Tag → ℕ → List ℕ → Mode → List ℕ → Answer
 readData t n x m random =
     let s = rangeStatus (three x 1) (three x 4) (sizeOf n) in
-    pick (eqb s 0) (readPart t (readingIn (t .files) n) n (three x 1) (asked (three x 1) (three x 4) (sizeOf n)) m random) (refusal t s)
+    pick (eqb s 0) (wrappedPart t (readingIn (t .files) n) n (three x 1) (asked (three x 1) (three x 4) (sizeOf n)) m random) (refusal t s)
 
 -- WriteData: length 0 919E; data not that length 917E; past the end 91BE
 unfoldable pub writeStatus : ℕ → ℕ → ℕ → ℕ → ℕ

@@ -6,7 +6,7 @@ ghost use lib.Dec.{ltb};
 ghost use Rattle.base.specs.Decide.{and};
 ghost use Rattle.settings.specs.Fields.{three};
 ghost use Rattle.answer.specs.Answer.{Gives};
-ghost use Rattle.contents.specs.Contents.{rangeStatus, asked, readPart, readData, writeStatus, writtenData};
+ghost use Rattle.contents.specs.Contents.{rangeStatus, asked, wrappedPart, readData, writeStatus, writtenData};
 use answer::Done;
 use messaging::Mode;
 use settings::Reading;
@@ -68,18 +68,8 @@ fn asked_for(at: usize, count: usize, size: usize) -> usize
     count
 }
 
-// A read is a tap where SDM is on and there is no session.
-fn is_tap(sdm: bool, live: bool) -> bool
-    ensures { λ r. ⌜ r ≡ and sdm (not live) ⌝ }
-{
-    if sdm {
-        return !live;
-    }
-    false
-}
-
 // ReadData of file n behind its range.
-fn read_part(
+fn wrapped_part(
     tag: Tag,
     reading: Reading,
     n: u8,
@@ -88,9 +78,9 @@ fn read_part(
     m: Mode,
     random: [u8; 20],
 ) -> Done
-    ensures { λ r. ⌜ Gives (readPart tag reading n at count m random) r ⌝ }
+    ensures { λ r. ⌜ Gives (wrappedPart tag reading n at count m random) r ⌝ }
 {
-    if is_tap(reading.settings.head.sdm, tag.live.on) {
+    if answer::is_tap(reading.settings.head.sdm, tag.live.on) {
         let s = answer::show(tag, reading, false, random);
         return answer::read_tap(tag, s, 0x9100, s.status, at, count);
     }
@@ -107,7 +97,7 @@ pub fn read_data(tag: Tag, n: u8, x: &[u8], m: Mode, random: [u8; 20]) -> Done
     let s = range_status(at, count, size);
     if s == 0 {
         let reading = state::reading_of(tag.files, n);
-        return read_part(tag, reading, n, at, asked_for(at, count, size), m, random);
+        return wrapped_part(tag, reading, n, at, asked_for(at, count, size), m, random);
     }
     answer::refuse(tag, s)
 }

@@ -28,7 +28,7 @@ use Rattle.messaging.specs.Command.{sentCommand}
 use Rattle.padding.proofs.Unpadding.{padded-length}
 use Rattle.state.specs.declared.Tag.{Tag}
 use Rattle.answer.specs.Answer.{Answer}
-use Rattle.tag.specs.Wrapped.{oneOf, formRight, partOf, orderStatus, headerLength, fileStatus, byteStatus, frontStatus, talk, commanded, wrapped as onWrapped}
+use Rattle.tag.specs.Wrapped.{oneOf, formRight, commandData, orderStatus, headerLength, fileStatus, byteStatus, frontStatus, fromStep5, commanded, wrapped as onWrapped}
 use Rattle.tag.specs.Call.{answered}
 use Rattle.series.proofs.Choices.{not-both, way, both-true, or-right}
 use Rattle.demands.specs.Reaching.{built}
@@ -124,8 +124,8 @@ built-last ins x =
     let e : length (built ins x) - 1 ≡ suc (suc (suc (suc (suc (length x))))) = omega (arith, built-length ins x) in
     ap (byteAt (built ins x)) e ∙ last-byte x 0
 
-built-part : (ins : ℕ) (x : List ℕ) → partOf (built ins x) ≡ x
-unfolding built partOf
+built-part : (ins : ℕ) (x : List ℕ) → commandData (built ins x) ≡ x
+unfolding built commandData
 built-part ins x =
     let e : length (built ins x) - 6 ≡ length x = omega (arith, built-length ins x) in
     ap (λ n. take n (drop 5 (built ins x))) e ∙ take-append-seam x _
@@ -148,7 +148,7 @@ unfolding orderStatus oneOf
 in-order pending e = rw e refl
 
 pub built-talks : (t : Tag) (x random : List ℕ) (P : Answer → Type 0) → 1 ≤ length x → length x ≤ 255 → t .pending .on ≡ false
-    → P (talk t 0x5F x random) → P (answered t (built 0x5F x) random)
+    → P (fromStep5 t 0x5F x random) → P (answered t (built 0x5F x) random)
 unfolding built answered onWrapped commanded
 built-talks t x random P h b off p =
     let c = built 0x5F x in
@@ -159,7 +159,7 @@ built-talks t x random P h b off p =
     (λ z.
     way P (formRight c)
     (λ f.
-    way P (eqb (orderStatus 0x5F 0 0 (t .pending .on)) 0) (λ o. subst (λ y. P (talk t 0x5F y random)) (sym (built-part 0x5F x)) p)
+    way P (eqb (orderStatus 0x5F 0 0 (t .pending .on)) 0) (λ o. subst (λ y. P (fromStep5 t 0x5F y random)) (sym (built-part 0x5F x)) p)
     (against (in-order (t .pending .on) off)))
     (against (built-form 0x5F x h)))
 

@@ -21,10 +21,10 @@ use Rattle.state.specs.declared.Access.{Access}
 use Rattle.state.specs.declared.Access.the-variants.{In, Never, Denied}
 use Rattle.state.specs.declared.Tag.{Tag}
 use Rattle.state.specs.State.{readingIn}
-use Rattle.state.specs.Access.{accessFor, accessStatus}
+use Rattle.state.specs.Access.{accessFor, accessStatus, grantStatus}
 use Rattle.answer.specs.Answer.{Answer, refusal, accepted}
-use Rattle.strings.specs.Strings.{changedSettings, byVerdict}
-use Rattle.tag.specs.Wrapped.{oneOf, formRight, partOf, wrappedCommands, orderStatus, headerLength, fileStatus, byteStatus, frontStatus, own, openingOf, onOpening, inMode, onAccess, talk, commanded, wrapped}
+use Rattle.details.specs.Details.{changedSettings, byVerdict}
+use Rattle.tag.specs.Wrapped.{oneOf, formRight, commandData, wrappedCommands, orderStatus, headerLength, fileStatus, byteStatus, frontStatus, own, openingOf, onOpening, fromStep7, onAccess, fromStep5, commanded, wrapped}
 use Rattle.tag.specs.Call.{answered}
 use Rattle.series.specs.Series.{accepting}
 use Rattle.series.proofs.Choices.{not-both, way}
@@ -35,11 +35,11 @@ use Rattle.demands.specs.Talks.{stringIn}
 pub record Changed (t : Tag) (c : List ℕ) (a : Answer) : Type 0 where
   pub mode : Mode
   pub text : List ℕ
-  pub sent : Sent t c (byteAt (partOf c) 0) text mode
+  pub sent : Sent t c (byteAt (commandData c) 0) text mode
   pub idle : t .pending .on ≡ false
-  pub place : fileStatus (byteAt (partOf c) 0) ≡ 0
-  pub good : judged (byteAt (partOf c) 0) text ≡ Good
-  pub is : a ≡ byVerdict t (byteAt (partOf c) 0) text mode Good
+  pub place : fileStatus (byteAt (commandData c) 0) ≡ 0
+  pub good : judged (byteAt (commandData c) 0) text ≡ Good
+  pub is : a ≡ byVerdict t (byteAt (commandData c) 0) text mode Good
 
 -- ---- statuses that refuse
 pub order-refuses : (known zero pending af : Bool)
@@ -78,11 +78,11 @@ unfolding accepting
 full-refuses = refl
 
 never-refuses : accepting (accessStatus Never) ≡ false
-unfolding accepting accessStatus
+unfolding accepting accessStatus grantStatus
 never-refuses = refl
 
 denied-refuses : accepting (accessStatus Denied) ≡ false
-unfolding accepting accessStatus
+unfolding accepting accessStatus grantStatus
 denied-refuses = refl
 
 pub length-refuses : accepting (openedStatus WrongLength) ≡ false
@@ -98,7 +98,7 @@ unfolding accepting openedStatus
 padding-refuses = refl
 
 -- 5F is no authentication
-by-talk : (t : Tag) (x random : List ℕ) (P : Answer → Type 0) → P (talk t 0x5F x random) → P (commanded t 0x5F x random)
+by-talk : (t : Tag) (x random : List ℕ) (P : Answer → Type 0) → P (fromStep5 t 0x5F x random) → P (commanded t 0x5F x random)
 unfolding commanded
 by-talk t x random P h = h
 
@@ -122,7 +122,7 @@ order-idle false zero pending e = absurd (not-both e)
 
 module _ (t : Tag) (c random : List ℕ) (class : byteAt c 0 ≡ 0x90) (command : byteAt c 1 ≡ 0x5F) where
   n : ℕ
-  n = byteAt (partOf c) 0
+  n = byteAt (commandData c) 0
 
   abbrev P : Answer → Type 0
   P a = accepting (a .status) ≡ true → Changed t c a
@@ -138,7 +138,7 @@ module _ (t : Tag) (c random : List ℕ) (class : byteAt c 0 ≡ 0x90) (command 
   verdict-change p m s i f (Refused r) e = refused (statusWord r) (word-refuses r)
 
   opening-change : (m : Mode) → accessFor 0x5F (t .live) (readingIn (t .files) n .settings .head) ≡ In m → t .pending .on ≡ false
-      → fileStatus n ≡ 0 → (o : Opening) → openingOf t 0x5F (partOf c) m ≡ o → P (onOpening t 0x5F (partOf c) m random o)
+      → fileStatus n ≡ 0 → (o : Opening) → openingOf t 0x5F (commandData c) m ≡ o → P (onOpening t 0x5F (commandData c) m random o)
   unfolding own changedSettings n
   opening-change m g i f (plain p) e =
       verdict-change p m (record { class = class; command = command; file = refl; granted = g; opened = e }) i f (judged n p) refl
@@ -147,25 +147,25 @@ module _ (t : Tag) (c random : List ℕ) (class : byteAt c 0 ≡ 0x90) (command 
   opening-change m g i f wrongPadding e = refused (openedStatus WrongPadding) padding-refuses
 
   access-change : t .pending .on ≡ false → fileStatus n ≡ 0 → (a : Access)
-      → accessFor 0x5F (t .live) (readingIn (t .files) n .settings .head) ≡ a → P (onAccess t 0x5F (partOf c) random a)
-  unfolding inMode
+      → accessFor 0x5F (t .live) (readingIn (t .files) n .settings .head) ≡ a → P (onAccess t 0x5F (commandData c) random a)
+  unfolding fromStep7
   access-change i f (In m) e =
       way P (and (t .live .on) (eqb (t .live .counter) 65535)) (λ z. refused 0x91AE full-refuses)
-      (λ z. opening-change m e i f (openingOf t 0x5F (partOf c) m) refl)
+      (λ z. opening-change m e i f (openingOf t 0x5F (commandData c) m) refl)
   access-change i f Never e = refused (accessStatus Never) never-refuses
   access-change i f Denied e = refused (accessStatus Denied) denied-refuses
 
-  talk-change : t .pending .on ≡ false → P (talk t 0x5F (partOf c) random)
-  unfolding talk frontStatus byteStatus n oneOf
+  talk-change : t .pending .on ≡ false → P (fromStep5 t 0x5F (commandData c) random)
+  unfolding fromStep5 frontStatus byteStatus n oneOf
   talk-change i =
-      let short = ltb (length (partOf c)) (headerLength 0x5F) in
-      let s = fileStatus (byteAt (partOf c) 0) in
+      let short = ltb (length (commandData c)) (headerLength 0x5F) in
+      let s = fileStatus (byteAt (commandData c) 0) in
       way P (eqb (pick short 0x917E (pick (t .place .application) s 0x919D)) 0)
       (λ e. access-change i (front-file short (t .place .application) s e) (accessFor 0x5F (t .live) (readingIn (t .files) n .settings .head)) refl)
       (λ e. refused (pick short 0x917E (pick (t .place .application) s 0x919D)) (front-status short (t .place .application)))
     where
-      front-status : (short application : Bool) → accepting (pick short 0x917E (pick application (fileStatus (byteAt (partOf c) 0)) 0x919D)) ≡ false
-      front-status short application = front-says short application (byteAt (partOf c) 0)
+      front-status : (short application : Bool) → accepting (pick short 0x917E (pick application (fileStatus (byteAt (commandData c) 0)) 0x919D)) ≡ false
+      front-status short application = front-says short application (byteAt (commandData c) 0)
 
   wrapped-change : P (wrapped t c random)
   unfolding wrapped orderStatus
@@ -178,13 +178,13 @@ module _ (t : Tag) (c random : List ℕ) (class : byteAt c 0 ≡ 0x90) (command 
       (λ f.
       way P (eqb s 0)
       (λ e.
-      subst (λ i. P (commanded t i (partOf c) random)) (sym command)
+      subst (λ i. P (commanded t i (commandData c) random)) (sym command)
       (talk-only (order-idle known zero (t .pending .on) (subst (λ (b : Bool). eqb (pick known (pick zero (pick (t .pending .on) (pick b 0 0x91CA) (pick b 0x911C 0)) 0x919E) 0x911C) 0 ≡ true) (ap (λ i. eqb i 0xAF) command) e))))
       (λ e. refused s (order-refuses known zero (t .pending .on) af)))
       (λ f. refused 0x917E form-refuses)
     where
-      talk-only : t .pending .on ≡ false → P (commanded t 0x5F (partOf c) random)
-      talk-only i = by-talk t (partOf c) random P (talk-change i)
+      talk-only : t .pending .on ≡ false → P (commanded t 0x5F (commandData c) random)
+      talk-only i = by-talk t (commandData c) random P (talk-change i)
 
   pub accepted-change : accepting (answered t c random .status) ≡ true → Changed t c (answered t c random)
   unfolding answered
@@ -194,6 +194,6 @@ module _ (t : Tag) (c random : List ℕ) (class : byteAt c 0 ≡ 0x90) (command 
       way P (eqb (byteAt c 0) 0x90) (λ z. wrapped-change) (λ z. absurd (not-both (sym z ∙ eq-eqb (byteAt c 0) 0x90 class))))
 
 -- the string of a change is the one that was opened
-pub string-sent : (t : Tag) (c p : List ℕ) (m : Mode) → Sent t c (byteAt (partOf c) 0) p m → stringIn t c ≡ p
+pub string-sent : (t : Tag) (c p : List ℕ) (m : Mode) → Sent t c (byteAt (commandData c) 0) p m → stringIn t c ≡ p
 unfolding stringIn
 string-sent t c p m s = rw (s .granted, s .opened) refl

@@ -20,6 +20,8 @@ use Rattle.messaging.specs.Protect.{Opening}
 use Rattle.messaging.specs.Reply.{Seals, Closes}
 use Rattle.sdm.specs.Tap.{Mirrors, Hides}
 use Rattle.state.specs.declared.Tag.{Tag}
+use Rattle.state.specs.declared.Birth.{Birth}
+use Rattle.state.specs.Fresh.{Births}
 use Rattle.answer.specs.declared.Done.{Done}
 use Rattle.answer.specs.Answer.{Answer, answerOf, Gives}
 use Rattle.tag.specs.declared.Called.{Called}
@@ -52,6 +54,9 @@ hides-once r q new other p h = twice r q new other (p .answer, p .text) (h .answ
 
 pub calls-once : {t : Tag} {c random old : List ℕ} → DeterminedIn (λ (r : Called) (new : List ℕ). Calls t c random old r new)
 calls-once r q new other p h = twice r q new other (p .told, p .left) (h .told, h .left)
+
+pub births-once : {uid : List ℕ} → Determined (λ (r : Birth). Births uid r)
+births-once r q p h = once r q (p .told) (h .told)
 
 -- those of functions inside messaging and tag
 pub seals-once : {p : List ℕ} {k : ℕ} {old : List ℕ} → DeterminedIn (λ (r : ℕ) (new : List ℕ). Seals p k old r new)

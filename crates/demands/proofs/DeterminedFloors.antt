@@ -3,8 +3,6 @@ use mathlib.Core.Bool.{Bool}
 use mathlib.Core.List.{List}
 use mathlib.Core.Path.{_≡_}
 use Prim.Native.Nat.{ℕ, _%_}
-use lib.Dec.{leb}
-use Rattle.base.specs.Decide.{pick}
 use Rattle.base.specs.Bytes.{byteAt, same, laid}
 use Rattle.sbox.specs.Tables.{sbox, invSbox}
 use Rattle.sbox.specs.Words.{packed, mixingTable, unmixingTable}
@@ -58,12 +56,12 @@ use Rattle.state.specs.declared.Live.{Live}
 use Rattle.state.specs.declared.Pending.{Pending}
 use Rattle.state.specs.declared.Tag.{Tag}
 use Rattle.state.specs.declared.Tapping.{Tapping}
-use Rattle.state.specs.State.{startOf, sizeOf, slotOf, headIn, readingIn, keyIn, noLive, noPending, quieted, endedOf}
+use Rattle.state.specs.State.{startOf, sizeOf, slotOf, stringAt, headIn, readingIn, keyIn, noLive, noPending, quieted, endedOf}
 use Rattle.state.specs.Access.{readGrant, writeGrant, accessFor}
-use Rattle.state.specs.Fresh.{born}
+use Rattle.state.specs.Fresh.{Births}
 use Rattle.state.specs.Sound.{soundTag}
 use Rattle.demands.specs.Determining.{Determined, DeterminedIn}
-use Rattle.demands.proofs.Determined.{once, twice, chains-once, pads-once, opens-once, closes-once, hides-once}
+use Rattle.demands.proofs.Determined.{once, twice, chains-once, pads-once, opens-once, closes-once, hides-once, births-once}
 
 -- ---- base
 pub at-determined : (s : List ℕ) (i : ℕ) → Determined (λ (r : ℕ). r ≡ byteAt s i)
@@ -237,8 +235,8 @@ pub lay-determined : (file : List ℕ) (r : Reading) (m : Mirror) → Determined
 lay-determined file r m = once
 
 -- ---- state
-pub fresh-determined : (uid : List ℕ) → Determined (λ (r : Birth). r ≡ born uid)
-fresh-determined uid = once
+pub fresh-determined : (uid : List ℕ) → Determined (λ (r : Birth). Births uid r)
+fresh-determined uid = births-once
 
 pub access-for-determined : (ins : ℕ) (l : Live) (h : Head) → Determined (λ (r : Access). r ≡ accessFor ins l h)
 access-for-determined ins l h = once
@@ -282,5 +280,5 @@ reading-of-determined f n = once
 pub slot-of-determined : (n : ℕ) → Determined (λ (r : ℕ). r ≡ slotOf n)
 slot-of-determined n = once
 
-pub string-len-determined : (lens : List ℕ) (i : ℕ) → Determined (λ (r : ℕ). r ≡ pick (leb (byteAt lens i) 27) (byteAt lens i) 27)
-string-len-determined lens i = once
+pub string-in-determined : (rules lens : List ℕ) (n : ℕ) → Determined (λ (r : List ℕ). r ≡ stringAt rules lens n)
+string-in-determined rules lens n = once

@@ -13,12 +13,12 @@ use Rattle.state.specs.declared.Live.{Live}
 use Rattle.state.specs.declared.Tag.{Tag}
 use Rattle.answer.specs.declared.Done.{Done}
 use Rattle.answer.specs.declared.Shown.{Shown}
-use Rattle.answer.specs.Answer.{Gives, given, refusal, accepted, sessionOf, afterwards}
+use Rattle.answer.specs.Answer.{Gives, given, refusal, accepted, sessionOf, usedUp, afterwards}
 use Rattle.answer.specs.Filing.{stored, storedIso, tapRead, withBytes}
-use Rattle.answer.specs.Taps.{shown}
+use Rattle.answer.specs.Taps.{isTap, shown}
 use Rattle.auth.specs.Parts.{keyStatus, partOneFirst, partOneNext, partTwoAnswer}
 use Rattle.keyring.specs.Keyring.{changedKey, keyVersion}
-use Rattle.strings.specs.Strings.{cardUid, fileSettings, changedSettings, fileCounters}
+use Rattle.details.specs.Details.{cardUid, fileSettings, changedSettings, fileCounters}
 use Rattle.contents.specs.Contents.{readData, writtenData}
 use Rattle.selects.specs.Selects.{selected}
 use Rattle.binaries.specs.Binaries.{readBinary, updatedBinary}
@@ -59,6 +59,12 @@ read-tap-determined tag s accepting refusing at count = gives-once
 pub with-bytes-determined : (f : Files) (n at : ℕ) (p : List ℕ) → Determined (λ (r : Files). r ≡ withBytes f n at p)
 with-bytes-determined f n at p = once
 
+pub used-up-determined : (on : Bool) (counter : ℕ) → Determined (λ (r : Bool). r ≡ usedUp on counter)
+used-up-determined on counter = once
+
+pub is-tap-determined : (sdm live : Bool) → Determined (λ (r : Bool). r ≡ isTap sdm live)
+is-tap-determined sdm live = once
+
 pub show-determined : (tag : Tag) (r : Reading) (iso : Bool) (random : List ℕ)
     → Determined (λ (s : Shown). s ≡ shown tag r iso random)
 show-determined tag r iso random = once
@@ -83,7 +89,7 @@ change-key-determined tag k p = gives-once
 pub key-version-determined : (tag : Tag) (k : ℕ) (m : Mode) → DeterminedText (λ (r : Done). Gives (keyVersion tag k m) r)
 key-version-determined tag k m = gives-once
 
--- ---- strings
+-- ---- details
 pub card-uid-determined : (tag : Tag) → DeterminedText (λ (r : Done). Gives (cardUid tag) r)
 card-uid-determined tag = gives-once
 

@@ -23,15 +23,15 @@ use Rattle.settings.proofs.NormalForm.{normal-length}
 use Rattle.settings.proofs.Mirrors.{good-length}
 use Rattle.state.specs.declared.Access.the-variants.{In}
 use Rattle.state.specs.declared.Tag.{Tag}
-use Rattle.state.specs.State.{sizeOf, rulesOf, readingIn, noLive, noPending, endedOf}
+use Rattle.state.specs.State.{sizeOf, rulesOf, readingIn, noLive, noPending, endedOf, filed, placed, talking, tapped}
 use Rattle.state.specs.Sound.{soundTag}
 use Rattle.state.specs.Access.{accessFor}
 use Rattle.answer.specs.Answer.{Answer, refusal, accepted, afterwards}
-use Rattle.strings.specs.Strings.{settingsReply, fileSettings, withRules, restrung, byVerdict}
+use Rattle.details.specs.Details.{settingsReply, fileSettings, withRules, restrung, byVerdict}
 use Rattle.selects.specs.Selects.{moved, byName, selected}
 use Rattle.tag.specs.declared.Outcome.{Outcome}
 use Rattle.tag.specs.declared.Outcome.the-variants.{Replied}
-use Rattle.tag.specs.Wrapped.{oneOf, formRight, partOf, orderStatus, headerLength, hasData, fileStatus, byteStatus, frontStatus, own, inMode, talk, commanded, wrapped}
+use Rattle.tag.specs.Wrapped.{oneOf, formRight, commandData, orderStatus, headerLength, hasData, fileStatus, byteStatus, frontStatus, own, fromStep7, fromStep5, commanded, wrapped}
 use Rattle.tag.specs.InterIndustry.{isoForm, lcOf, dataOf, isoCommanded, interIndustry}
 use Rattle.tag.specs.Call.{answered, withStatus, replyOf, outcomeOf, replied, byOutcome}
 use Rattle.series.specs.Series.{Asked, step, accepting, Slots}
@@ -45,7 +45,7 @@ use Rattle.demands.proofs.Series.{answered-rules, which, small}
 use Rattle.demands.proofs.Readback.{string-read}
 
 -- ---- one normal form, one tag
-module _ (t : Tag) (c d : List ℕ) (a b : Answer) (h : Changed t c a) (k : Changed t d b) (file : byteAt (partOf c) 0 ≡ byteAt (partOf d) 0) where
+module _ (t : Tag) (c d : List ℕ) (a b : Answer) (h : Changed t c a) (k : Changed t d b) (file : byteAt (commandData c) 0 ≡ byteAt (commandData d) 0) where
   one-mode : h .mode ≡ k .mode
   one-mode =
       let e : In (h .mode) ≡ In (k .mode) =
@@ -57,7 +57,7 @@ module _ (t : Tag) (c d : List ℕ) (a b : Answer) (h : Changed t c a) (k : Chan
       let l : length (h .text) ≡ length (k .text) = sym (normal-length (h .text)) ∙ ap length e ∙ normal-length (k .text) in
       h .is
       ∙ ap₂ (λ n m. byVerdict t n (h .text) m Good) file one-mode
-      ∙ ap₂ (λ (s : List ℕ) (i : ℕ). accepted (restrung t (withRules (t .files) (byteAt (partOf d) 0) (s ++ replicate (27 - i) 0) i) (byteAt (partOf d) 0)) (k .mode) []) e l
+      ∙ ap₂ (λ (s : List ℕ) (i : ℕ). accepted (restrung t (withRules (t .files) (byteAt (commandData d) 0) (s ++ replicate (27 - i) 0) i) (byteAt (commandData d) 0)) (k .mode) []) e l
       ∙ sym (k .is)
 
 alike-same : (t u : Tag) → t ≡ u → Alike t u
@@ -77,15 +77,15 @@ answers-settings u n random =
     answered (moved u true .tag) (settingsOf n) random ≡ accepted (moved u true .tag) Plain (settingsReply (rulesOf (u .files) n) (sizeOf n))
 
 tells-1 : (u : Tag) (random : List ℕ) → answers-settings u 1 random
-unfolding answered wrapped formRight partOf settingsOf oneOf orderStatus commanded talk frontStatus headerLength byteStatus fileStatus moved noLive noPending accessFor inMode hasData opening lengthRight partRight checked macRight content own fileSettings
+unfolding answered wrapped formRight commandData settingsOf oneOf orderStatus commanded fromStep5 frontStatus headerLength byteStatus fileStatus moved noLive noPending accessFor fromStep7 hasData opening lengthRight partRight checked macRight content own fileSettings placed endedOf talking
 tells-1 u random = refl
 
 tells-2 : (u : Tag) (random : List ℕ) → answers-settings u 2 random
-unfolding answered wrapped formRight partOf settingsOf oneOf orderStatus commanded talk frontStatus headerLength byteStatus fileStatus moved noLive noPending accessFor inMode hasData opening lengthRight partRight checked macRight content own fileSettings
+unfolding answered wrapped formRight commandData settingsOf oneOf orderStatus commanded fromStep5 frontStatus headerLength byteStatus fileStatus moved noLive noPending accessFor fromStep7 hasData opening lengthRight partRight checked macRight content own fileSettings placed endedOf talking
 tells-2 u random = refl
 
 tells-3 : (u : Tag) (random : List ℕ) → answers-settings u 3 random
-unfolding answered wrapped formRight partOf settingsOf oneOf orderStatus commanded talk frontStatus headerLength byteStatus fileStatus moved noLive noPending accessFor inMode hasData opening lengthRight partRight checked macRight content own fileSettings
+unfolding answered wrapped formRight commandData settingsOf oneOf orderStatus commanded fromStep5 frontStatus headerLength byteStatus fileStatus moved noLive noPending accessFor fromStep7 hasData opening lengthRight partRight checked macRight content own fileSettings placed endedOf talking
 tells-3 u random = refl
 
 tells : (u : Tag) (random : List ℕ) (n : ℕ) → 1 ≤ n → n ≤ 3 → answers-settings u n random
@@ -148,13 +148,13 @@ second-heard u f p n a b l =
 
 -- ---- what a change leaves
 still-idle : (u : Tag) (m : Mode) → u .pending .on ≡ false → accepted u m [] .tag .pending .on ≡ false
-unfolding accepted refusal endedOf noPending afterwards
+unfolding accepted refusal endedOf noPending afterwards talking
 still-idle u m e = way (λ (a : Answer). a .tag .pending .on ≡ false) (overlong m 0) (λ z. refl) (λ z. e)
 
 idle-after : (t : Tag) (c : List ℕ) (a : Answer) → Changed t c a → a .tag .pending .on ≡ false
-unfolding restrung
+unfolding restrung tapped filed
 idle-after t c a h =
-    let n = byteAt (partOf c) 0 in
+    let n = byteAt (commandData c) 0 in
     let p = h .text in
     ap (λ (x : Answer). x .tag .pending .on) (h .is)
     ∙ still-idle (restrung t (withRules (t .files) n (normal p ++ replicate (27 - length p) 0) (length p)) n) (h .mode) (h .idle)
@@ -169,10 +169,10 @@ module _ (t : Tag) (f : Fine t) (n : ℕ) (a : 1 ≤ n) (b : n ≤ 3) (c random 
       accepted-change t c random (eqb-true (byteAt c 0) 0x90 (and-left _ _ change))
       (eqb-true (byteAt c 1) 0x5F (and-left _ _ (and-right (eqb (byteAt c 0) 0x90) _ change))) fair
 
-  file-is : byteAt (partOf c) 0 ≡ n
+  file-is : byteAt (commandData c) 0 ≡ n
   unfolding isChange
   file-is =
-      eqb-true (byteAt (partOf c) 0) n (and-right (eqb (byteAt c 1) 0x5F) _ (and-right (eqb (byteAt c 0) 0x90) _ change))
+      eqb-true (byteAt (commandData c) 0) n (and-right (eqb (byteAt c 1) 0x5F) _ (and-right (eqb (byteAt c 0) 0x90) _ change))
 
   string-is : stringIn t c ≡ is-changed .text
   string-is = string-sent t c (is-changed .text) (is-changed .mode) (is-changed .sent)
@@ -185,12 +185,12 @@ module _ (t : Tag) (f : Fine t) (n : ℕ) (a : 1 ≤ n) (b : n ≤ 3) (c random 
 
   short : length (rulesOf (next .files) n) ≤ 27
   short =
-      let l : length (is-changed .text) ≤ 27 = good-length (byteAt (partOf c) 0) (is-changed .text) (is-changed .good) .1 in
+      let l : length (is-changed .text) ≤ 27 = good-length (byteAt (commandData c) 0) (is-changed .text) (is-changed .good) .1 in
       subst (λ k. k ≤ 27) (sym (ap length (holds ∙ ap normal string-is) ∙ normal-length (is-changed .text))) l
 
   long : 3 ≤ length (normal (stringIn t c))
   long =
-      let l : 3 ≤ length (is-changed .text) = good-length (byteAt (partOf c) 0) (is-changed .text) (is-changed .good) .0 in
+      let l : 3 ≤ length (is-changed .text) = good-length (byteAt (commandData c) 0) (is-changed .text) (is-changed .good) .0 in
       subst (λ k. 3 ≤ k) (sym (ap length (ap normal string-is) ∙ normal-length (is-changed .text))) l
 
   told : second (saidAll next (telling n)) ≡ settingsReply (normal (stringIn t c)) (sizeOf n) ++ 0x91 ∷ 0x00 ∷ []

@@ -37,14 +37,14 @@ use Rattle.state.specs.declared.Access.the-variants.{In, Never as NeverIn, Deni
 use Rattle.state.specs.declared.Grant.the-variants.{ByKey, ByTap, Free, Never, Denied}
 use Rattle.state.specs.declared.Live.{Live}
 use Rattle.state.specs.declared.Tag.{Tag}
-use Rattle.state.specs.State.{slotOf, rulesOf, readingIn, noPending}
+use Rattle.state.specs.State.{slotOf, rulesOf, readingIn, noPending, filed, talking, tapped}
 use Rattle.state.specs.Fresh.{rightUid}
-use Rattle.state.specs.Access.{granted, changeGrant, inMode as accessIn, accessFor}
+use Rattle.state.specs.Access.{granted, changeGrant, inMode, accessFor}
 use Rattle.state.specs.Sound.{rulesSound, keysSound, aloneSound, levelSound, soundTag}
 use Rattle.answer.specs.Answer.{Answer, given, accepted, afterwards, raised, sessionOf}
-use Rattle.strings.specs.Strings.{restrung, byVerdict, changedSettings}
+use Rattle.details.specs.Details.{restrung, byVerdict, changedSettings}
 use Rattle.tag.specs.declared.Outcome.the-variants.{Replied}
-use Rattle.tag.specs.Wrapped.{oneOf, headerLength, hasData, frontStatus, own, onOpening, inMode, onAccess, talk}
+use Rattle.tag.specs.Wrapped.{oneOf, headerLength, hasData, frontStatus, own, onOpening, fromStep7, onAccess, fromStep5}
 use Rattle.tag.specs.Call.{answered, withStatus, replyOf, outcomeOf, replied, byOutcome, roomBy}
 use Rattle.series.specs.Series.{step}
 use Rattle.series.proofs.Choices.{not-both, way}
@@ -76,7 +76,7 @@ record EGrants (change : ℕ) (m : Mode) : Type 0 where
   mode : m ≡ Plain
 
 by-grant : (live : Bool) (key change : ℕ) (m : Mode) (k e f : Bool) → eqb change key ≡ k → eqb change 14 ≡ e
-    → accessIn (pick (and live (or k k)) ByKey (pick (and (pick live false true) false) ByTap (pick (or e e) Free (pick (and f (and f true)) Never Denied)))) Full ≡ In m
+    → inMode (pick (and live (or k k)) ByKey (pick (and (pick live false true) false) ByTap (pick (or e e) Free (pick (and f (and f true)) Never Denied)))) Full ≡ In m
     → KeyGrants live key change m ⊎ EGrants change m
 by-grant true key change m true e f p q a = inl (record { on = refl; right = eqb-true change key p; mode = sym (ap modeIn a) })
 by-grant true key change m false true f p q a = inr (record { right = eqb-true change 14 q; mode = sym (ap modeIn a) })
@@ -128,15 +128,15 @@ module _ (t : Tag) (n : ℕ) (m : Mode) (s : List ℕ) (random : List ℕ) (P : 
   -- step 9: a good string is stored
   own-accepts : judged n s ≡ Good → (x : List ℕ) → byteAt x 0 ≡ n
       → P (given (changed t n s) 0x9100 (closed (sessionOf (raised (t .live))) m 0 [])) → P (own t 0x5F x s m random)
-  unfolding own changedSettings accepted changed restrung padOut
+  unfolding own changedSettings accepted changed restrung padOut tapped filed
   own-accepts g x e p =
       subst (λ k. P (changedSettings t k s m)) (sym e)
       (subst (λ v. P (byVerdict t n s m v)) (sym g) (way P (overlong m 0) (λ z. against z (short-none m)) (λ z. p)))
 
   -- steps 5 to 8: the front, access, CmdCtr, and the message, which opens to the string
   talk-owns : (x : List ℕ) → Ready t n m → 1 ≤ length x → byteAt x 0 ≡ n → opening (sessionOf (t .live)) m 0x5F x 1 true ≡ plain s
-      → P (own t 0x5F x s m random) → P (talk t 0x5F x random)
-  unfolding talk inMode headerLength hasData oneOf
+      → P (own t 0x5F x s m random) → P (fromStep5 t 0x5F x random)
+  unfolding fromStep5 fromStep7 headerLength hasData oneOf
   talk-owns x h l e o p =
       way P (eqb (frontStatus 0x5F x (t .place .application)) 0)
       (λ f.
@@ -161,7 +161,7 @@ module _ (t : Tag) (n : ℕ) (r : Settings) (m : Mode) (h : Ready t n m) (e : me
       (own-accepts t n m s random P g x (carried-first t n m s) refl))
 
   kept : rulesOf (changed t n (stringOf r) .files) n ≡ stringOf r
-  unfolding changed afterwards restrung padOut
+  unfolding changed afterwards restrung padOut talking tapped filed
   kept =
       let o = one-string n r e in
       restored (t .files) (h .slots .rules) (h .slots .lens) n (stringOf r) (o .good) n refl (small n (h .first) (h .last)) ∙ o .own

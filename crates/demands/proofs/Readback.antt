@@ -20,8 +20,8 @@ use Rattle.state.specs.declared.Tag.{Tag}
 use Rattle.state.specs.State.{slotOf, sizeOf, rulesOf}
 use Rattle.state.specs.Access.{accessFor}
 use Rattle.answer.specs.Answer.{Answer, refusal, accepted}
-use Rattle.strings.specs.Strings.{settingsReply, fileSettings}
-use Rattle.tag.specs.Wrapped.{oneOf, formRight, partOf, wrappedCommands, orderStatus, headerLength, fileStatus, byteStatus, frontStatus, own, openingOf, onOpening, inMode, talk, commanded, wrapped}
+use Rattle.details.specs.Details.{settingsReply, fileSettings}
+use Rattle.tag.specs.Wrapped.{oneOf, formRight, commandData, wrappedCommands, orderStatus, headerLength, fileStatus, byteStatus, frontStatus, own, openingOf, onOpening, fromStep7, fromStep5, commanded, wrapped}
 use Rattle.tag.specs.Call.{answered}
 use Rattle.series.specs.Series.{Asked, step, after, accepting}
 use Rattle.series.proofs.Choices.{not-both, way, not-true}
@@ -32,36 +32,36 @@ use Rattle.demands.proofs.Series.{series-rules}
 
 module _ (t : Tag) (c random : List ℕ) (class : byteAt c 0 ≡ 0x90) (command : byteAt c 1 ≡ 0xF5) where
   abbrev P : Answer → Type 0
-  P a = accepting (a .status) ≡ true → a .text ≡ readText t (byteAt (partOf c) 0) (rulesOf (t .files) (byteAt (partOf c) 0))
+  P a = accepting (a .status) ≡ true → a .text ≡ readText t (byteAt (commandData c) 0) (rulesOf (t .files) (byteAt (commandData c) 0))
 
   refused : (s : ℕ) → accepting s ≡ false → P (refusal t s)
   unfolding refusal
   refused s e h = absurd (not-both (sym e ∙ h))
 
-  own-read : (p : List ℕ) → P (own t 0xF5 (partOf c) p (pick (t .live .on) Mac Plain) random)
+  own-read : (p : List ℕ) → P (own t 0xF5 (commandData c) p (pick (t .live .on) Mac Plain) random)
   unfolding own fileSettings accepted closedStatus
   own-read p =
-      let d = settingsReply (rulesOf (t .files) (byteAt (partOf c) 0)) (sizeOf (byteAt (partOf c) 0)) in
+      let d = settingsReply (rulesOf (t .files) (byteAt (commandData c) 0)) (sizeOf (byteAt (commandData c) 0)) in
       way P (overlong (pick (t .live .on) Mac Plain) (length d)) (λ e. refused 0x917E form-refuses) (λ e h. refl)
 
-  opening-read : (o : Opening) → P (onOpening t 0xF5 (partOf c) (pick (t .live .on) Mac Plain) random o)
+  opening-read : (o : Opening) → P (onOpening t 0xF5 (commandData c) (pick (t .live .on) Mac Plain) random o)
   opening-read (plain p) = own-read p
   opening-read wrongLength = refused (openedStatus WrongLength) length-refuses
   opening-read wrongMac = refused (openedStatus WrongMac) mac-refuses
   opening-read wrongPadding = refused (openedStatus WrongPadding) padding-refuses
 
-  talk-read : P (talk t 0xF5 (partOf c) random)
-  unfolding talk frontStatus byteStatus oneOf accessFor inMode
+  talk-read : P (fromStep5 t 0xF5 (commandData c) random)
+  unfolding fromStep5 frontStatus byteStatus oneOf accessFor fromStep7
   talk-read =
-      let short = ltb (length (partOf c)) (headerLength 0xF5) in
-      let s : ℕ = pick short 0x917E (pick (t .place .application) (fileStatus (byteAt (partOf c) 0)) 0x919D) in
+      let short = ltb (length (commandData c)) (headerLength 0xF5) in
+      let s : ℕ = pick short 0x917E (pick (t .place .application) (fileStatus (byteAt (commandData c) 0)) 0x919D) in
       way P (eqb s 0)
       (λ e.
       way P (and (t .live .on) (eqb (t .live .counter) 65535)) (λ z. refused 0x91AE full-refuses)
-      (λ z. opening-read (openingOf t 0xF5 (partOf c) (pick (t .live .on) Mac Plain))))
-      (λ e. refused s (front-says short (t .place .application) (byteAt (partOf c) 0)))
+      (λ z. opening-read (openingOf t 0xF5 (commandData c) (pick (t .live .on) Mac Plain))))
+      (λ e. refused s (front-says short (t .place .application) (byteAt (commandData c) 0)))
 
-  commanded-read : P (commanded t 0xF5 (partOf c) random)
+  commanded-read : P (commanded t 0xF5 (commandData c) random)
   unfolding commanded
   commanded-read = talk-read
 
@@ -74,7 +74,7 @@ module _ (t : Tag) (c random : List ℕ) (class : byteAt c 0 ≡ 0x90) (command 
       let s : ℕ = pick known (pick zero (pick (t .pending .on) (pick af 0 0x91CA) (pick af 0x911C 0)) 0x919E) 0x911C in
       way P (formRight c)
       (λ f.
-      way P (eqb s 0) (λ e. subst (λ i. P (commanded t i (partOf c) random)) (sym command) commanded-read)
+      way P (eqb s 0) (λ e. subst (λ i. P (commanded t i (commandData c) random)) (sym command) commanded-read)
       (λ e. refused s (order-refuses known zero (t .pending .on) af)))
       (λ f. refused 0x917E form-refuses)
 
@@ -90,7 +90,7 @@ pub read-alike : (t : Tag) (c random : List ℕ) (n : ℕ) → asksSettings c n 
 unfolding asksSettings
 read-alike t c random n e h =
     let f = and-right (eqb (byteAt c 0) 0x90) _ e in
-    let k : byteAt (partOf c) 0 ≡ n = eqb-true (byteAt (partOf c) 0) n (and-right (eqb (byteAt c 1) 0xF5) _ f) in
+    let k : byteAt (commandData c) 0 ≡ n = eqb-true (byteAt (commandData c) 0) n (and-right (eqb (byteAt c 1) 0xF5) _ f) in
     read-answer t c random (eqb-true (byteAt c 0) 0x90 (and-left _ _ e)) (eqb-true (byteAt c 1) 0xF5 (and-left _ _ f)) h
     ∙ ap (λ i. readText t i (rulesOf (t .files) i)) k
 

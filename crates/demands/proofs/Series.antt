@@ -16,18 +16,17 @@ use Rattle.messaging.specs.Reply.{overlong}
 use Rattle.settings.specs.Normal.{normal}
 use Rattle.state.specs.declared.Files.{Files}
 use Rattle.state.specs.declared.Tag.{Tag}
-use Rattle.state.specs.State.{slotOf, rulesOf, readingIn, endedOf}
+use Rattle.state.specs.State.{slotOf, rulesOf, readingIn, endedOf, filed, keyed, placed, talking, tapped}
 use Rattle.state.specs.Fresh.{deliveredFiles, freshTag, rightUid}
 use Rattle.answer.specs.Answer.{Answer, refusal, accepted, afterwards}
 use Rattle.answer.specs.Taps.{shown}
-use Rattle.answer.specs.Filing.{storedIso, tapped, tapRead, withBytes, filed}
-use Rattle.auth.specs.Parts.{talking, begun, enteredFirst, enteredNext, entered}
-use Rattle.keyring.specs.Keyring.{keyed}
-use Rattle.strings.specs.Strings.{withRules, restrung}
+use Rattle.answer.specs.Filing.{storedIso, tapRead, withBytes}
+use Rattle.auth.specs.Parts.{begun, enteredFirst, enteredNext, entered}
+use Rattle.details.specs.Details.{withRules, restrung}
 use Rattle.selects.specs.Selects.{moved, selectedFile}
 use Rattle.tag.specs.declared.Outcome.{Outcome}
 use Rattle.tag.specs.declared.Outcome.the-variants.{Replied, SmallRoom, WrongRandom, Unsound}
-use Rattle.tag.specs.Wrapped.{partOf}
+use Rattle.tag.specs.Wrapped.{commandData}
 use Rattle.tag.specs.Call.{answered, outcomeOf, replied, unanswered, byOutcome}
 use Rattle.series.specs.Series.{Asked, step, after, accepting, Slots}
 use Rattle.series.proofs.Choices.{not-both, way}
@@ -46,11 +45,11 @@ abbrev Keeps : Tag → ℕ → Answer → Type 0
 Keeps t n a = rulesOf (a .tag .files) n ≡ rulesOf (t .files) n
 
 keeps-accepted : (t u : Tag) (n : ℕ) → rulesOf (u .files) n ≡ rulesOf (t .files) n → (m : Mode) (d : List ℕ) → Keeps t n (accepted u m d)
-unfolding accepted refusal endedOf afterwards
+unfolding accepted refusal endedOf afterwards talking
 keeps-accepted t u n e m d = way (Keeps t n) (overlong m (length d)) (λ z. e) (λ z. e)
 
 keeps-kinds : (t : Tag) (c random : List ℕ) (n : ℕ) → and (eqb (byteAt c 0) 0x90) (eqb (byteAt c 1) 0x5F) ≡ false → Kinds t c random (Keeps t n)
-unfolding refusal endedOf begun entered enteredFirst enteredNext talking keyed afterwards filed withBytes tapRead tapped storedIso moved selectedFile rulesOf
+unfolding refusal endedOf begun entered enteredFirst enteredNext talking keyed afterwards filed withBytes tapRead tapped storedIso moved selectedFile rulesOf placed
 keeps-kinds t c random n other =
     record {
       refuses = λ s. refl;
@@ -75,28 +74,28 @@ keeps-kinds t c random n other =
 
 -- ---- an accepted change puts its normal form, and leaves the other files' strings
 changed-rules : (t : Tag) (f : Files) (m : ℕ) (mode : Mode) → rulesOf (accepted (restrung t f m) mode [] .tag .files) ≡ rulesOf f
-unfolding accepted refusal endedOf afterwards restrung
+unfolding accepted refusal endedOf afterwards restrung talking tapped filed
 changed-rules t f m mode = way (λ (a : Answer). rulesOf (a .tag .files) ≡ rulesOf f) (overlong mode 0) (λ z. refl) (λ z. refl)
 
 module _ (t : Tag) (slots : Slots t) (c random : List ℕ) (n : ℕ) (small : slotOf n ≤ 2) where
   put : (a : Answer) → Changed t c a
-      → rulesOf (a .tag .files) n ≡ pick (eqb (byteAt (partOf c) 0) n) (normal (stringIn t c)) (rulesOf (t .files) n)
+      → rulesOf (a .tag .files) n ≡ pick (eqb (byteAt (commandData c) 0) n) (normal (stringIn t c)) (rulesOf (t .files) n)
   unfolding padOut
   put a h =
-      let m = byteAt (partOf c) 0 in
+      let m = byteAt (commandData c) 0 in
       let f = withRules (t .files) m (padOut (h .text)) (length (h .text)) in
       let e : rulesOf (a .tag .files) n ≡ rulesOf f n = ap (λ x. rulesOf (x .tag .files) n) (h .is) ∙ ap (λ g. g n) (changed-rules t f m (h .mode)) in
       e ∙ by (eqb m n) refl
     where
-      by : (b : Bool) → eqb (byteAt (partOf c) 0) n ≡ b
-          → rulesOf (withRules (t .files) (byteAt (partOf c) 0) (padOut (h .text)) (length (h .text))) n ≡ pick b (normal (stringIn t c)) (rulesOf (t .files) n)
+      by : (b : Bool) → eqb (byteAt (commandData c) 0) n ≡ b
+          → rulesOf (withRules (t .files) (byteAt (commandData c) 0) (padOut (h .text)) (length (h .text))) n ≡ pick b (normal (stringIn t c)) (rulesOf (t .files) n)
       by true q =
-          restored (t .files) (slots .rules) (slots .lens) (byteAt (partOf c) 0) (h .text) (h .good) n (ap slotOf (eqb-true (byteAt (partOf c) 0) n q)) small
+          restored (t .files) (slots .rules) (slots .lens) (byteAt (commandData c) 0) (h .text) (h .good) n (ap slotOf (eqb-true (byteAt (commandData c) 0) n q)) small
           ∙ ap normal (sym (string-sent t c (h .text) (h .mode) (h .sent)))
       by false q =
-          slot-other (byteAt (partOf c) 0) n (t .files) (padOut (h .text)) (length (h .text))
-          (whole (t .files) (slots .rules) (slots .lens) (byteAt (partOf c) 0) (h .text) (h .good))
-          (λ s. not-both (sym q ∙ eq-eqb (byteAt (partOf c) 0) n (same-slot (byteAt (partOf c) 0) n s small)))
+          slot-other (byteAt (commandData c) 0) n (t .files) (padOut (h .text)) (length (h .text))
+          (whole (t .files) (slots .rules) (slots .lens) (byteAt (commandData c) 0) (h .text) (h .good))
+          (λ s. not-both (sym q ∙ eq-eqb (byteAt (commandData c) 0) n (same-slot (byteAt (commandData c) 0) n s small)))
 
   -- the string of file n after a command
   pub answered-rules : rulesOf (answered t c random .tag .files) n
@@ -107,17 +106,17 @@ module _ (t : Tag) (slots : Slots t) (c random : List ℕ) (n : ℕ) (small : sl
       by : (class command fair : Bool) → eqb (byteAt c 0) 0x90 ≡ class → eqb (byteAt c 1) 0x5F ≡ command
           → accepting (answered t c random .status) ≡ fair
           → rulesOf (answered t c random .tag .files) n
-          ≡ pick (and (and class (and command (eqb (byteAt (partOf c) 0) n))) fair) (normal (stringIn t c)) (rulesOf (t .files) n)
+          ≡ pick (and (and class (and command (eqb (byteAt (commandData c) 0) n))) fair) (normal (stringIn t c)) (rulesOf (t .files) n)
       by false command fair p q r = every-answer t c random (Keeps t n) (keeps-kinds t c random n (rw p refl))
       by true false fair p q r = every-answer t c random (Keeps t n) (keeps-kinds t c random n (rw (p, q) refl))
       by true true true p q r =
           put (answered t c random) (accepted-change t c random (eqb-true (byteAt c 0) 0x90 p) (eqb-true (byteAt c 1) 0x5F q) r)
-          ∙ also (eqb (byteAt (partOf c) 0) n)
+          ∙ also (eqb (byteAt (commandData c) 0) n)
         where
           also : (b : Bool) → pick b (normal (stringIn t c)) (rulesOf (t .files) n) ≡ pick (and b true) (normal (stringIn t c)) (rulesOf (t .files) n)
           also true = refl
           also false = refl
-      by true true false p q r = ap (λ f. rulesOf f n) (changed-accepted t c random r .files) ∙ never (eqb (byteAt (partOf c) 0) n)
+      by true true false p q r = ap (λ f. rulesOf f n) (changed-accepted t c random r .files) ∙ never (eqb (byteAt (commandData c) 0) n)
         where
           never : (b : Bool) → rulesOf (t .files) n ≡ pick (and b false) (normal (stringIn t c)) (rulesOf (t .files) n)
           never true = refl

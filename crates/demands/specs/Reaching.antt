@@ -22,7 +22,7 @@ use Rattle.state.specs.State.{rulesOf, readingIn}
 use Rattle.state.specs.Access.{accessFor}
 use Rattle.state.specs.Sound.{soundTag}
 use Rattle.answer.specs.Answer.{given, afterwards, raised, sessionOf}
-use Rattle.strings.specs.Strings.{withRules, restrung}
+use Rattle.details.specs.Details.{withRules, restrung}
 use Rattle.tag.specs.declared.Outcome.the-variants.{Replied}
 use Rattle.tag.specs.Call.{answered, replyOf, outcomeOf, roomBy}
 use Rattle.series.specs.Series.{Asked, step, Slots}

@@ -19,10 +19,10 @@ use Rattle.state.specs.State.{sizeOf, readingIn}
 use Rattle.state.specs.Fresh.{firstRules, secondRules, thirdRules}
 use Rattle.state.specs.Access.{accessFor}
 use Rattle.answer.specs.Answer.{Answer, raised, sessionOf}
-use Rattle.strings.specs.Strings.{settingsReply}
+use Rattle.details.specs.Details.{settingsReply}
 use Rattle.tag.specs.declared.Outcome.{Outcome}
 use Rattle.tag.specs.declared.Outcome.the-variants.{Replied, SmallRoom, WrongRandom, Unsound}
-use Rattle.tag.specs.Wrapped.{partOf, openingOf}
+use Rattle.tag.specs.Wrapped.{commandData, openingOf}
 use Rattle.tag.specs.Call.{answered, replyOf, outcomeOf}
 use Rattle.series.specs.Series.{Asked, step, accepting}
 use Rattle.series.specs.Worked.{selectApplication, settingsOf}
@@ -54,7 +54,7 @@ Alike t u = (asked : List Asked) → saidAll t asked ≡ saidAll u asked
 -- ---- ChangeFileSettings
 -- CLA 90, INS 5F, file n
 unfoldable pub isChange : List ℕ → ℕ → Bool
-isChange c n = and (eqb (byteAt c 0) 0x90) (and (eqb (byteAt c 1) 0x5F) (eqb (byteAt (partOf c) 0) n))
+isChange c n = and (eqb (byteAt c 0) 0x90) (and (eqb (byteAt c 1) 0x5F) (eqb (byteAt (commandData c) 0) n))
 
 abbrev pub modeOf : Access → Mode
 modeOf (In m) = m
@@ -70,8 +70,8 @@ plainOf wrongPadding = []
 -- the string of a change, as the tag opens it
 unfoldable pub stringIn : Tag → List ℕ → List ℕ
 stringIn t c =
-    let h = readingIn (t .files) (byteAt (partOf c) 0) .settings .head in
-    plainOf (openingOf t 0x5F (partOf c) (modeOf (accessFor 0x5F (t .live) h)))
+    let h = readingIn (t .files) (byteAt (commandData c) 0) .settings .head in
+    plainOf (openingOf t 0x5F (commandData c) (modeOf (accessFor 0x5F (t .live) h)))
 
 abbrev pub replies : Outcome → Bool
 replies Replied = true
@@ -93,7 +93,7 @@ lastChange t (a ∷ more) n s = lastChange (step t a) more n (pick (changes t a 
 -- ---- GetFileSettings
 -- CLA 90, INS F5, file n
 unfoldable pub asksSettings : List ℕ → ℕ → Bool
-asksSettings c n = and (eqb (byteAt c 0) 0x90) (and (eqb (byteAt c 1) 0xF5) (eqb (byteAt (partOf c) 0) n))
+asksSettings c n = and (eqb (byteAt c 0) 0x90) (and (eqb (byteAt c 1) 0xF5) (eqb (byteAt (commandData c) 0) n))
 
 -- what GetFileSettings of file n is answered: MAC in session, else Plain
 abbrev pub readText : Tag → ℕ → List ℕ → List ℕ

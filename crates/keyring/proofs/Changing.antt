@@ -5,8 +5,8 @@ use Prim.Native.Nat.{ℕ}
 use Rattle.base.specs.Bytes.{byteAt}
 use Rattle.state.specs.declared.Secrets.{Secrets}
 use Rattle.state.specs.declared.Tag.{Tag}
-use Rattle.state.specs.State.{keyIn}
-use Rattle.keyring.specs.Keyring.{newKey, changeStatus, withKey, keyed}
+use Rattle.state.specs.State.{keyIn, keyed}
+use Rattle.keyring.specs.Keyring.{newKey, changeStatus, withKey}
 
 abbrev pub newOf : Tag → ℕ → List ℕ → List ℕ
 newOf t k p = newKey p (keyIn (t .secrets .keys) k) k

@@ -11,7 +11,7 @@ use Rattle.messaging.specs.declared.Mode.{Mode}
 use Rattle.messaging.specs.declared.Mode.the-variants.{Full}
 use Rattle.state.specs.declared.Secrets.{Secrets}
 use Rattle.state.specs.declared.Tag.{Tag}
-use Rattle.state.specs.State.{keyIn, endedOf}
+use Rattle.state.specs.State.{keyIn, keyed, endedOf}
 use Rattle.answer.specs.Answer.{Answer, given, refusal, accepted}
 
 -- key 0 gives the new key, others new xor old
@@ -26,9 +26,6 @@ changeStatus p k new =
 
 unfoldable pub withKey : Secrets → ℕ → List ℕ → ℕ → Secrets
 withKey s k new version = record { keys = laid new (k * 16) (s .keys); versions = laid (version ∷ []) k (s .versions) }
-
-unfoldable pub keyed : Tag → Secrets → Tag
-keyed t s = record { uid = t .uid; files = t .files; secrets = s; live = t .live; pending = t .pending; place = t .place; tap = t .tap }
 
 -- changing key 0 ends the session and the reply has no MAC
 unfoldable pub changedKey : Tag → ℕ → List ℕ → Answer

@@ -1,4 +1,4 @@
--- The tag with another place, and where a file can be selected. The flag is a parameter of its own, so that no record is taken apart.
+-- Where a file can be selected. The flag is a parameter of its own, so that no record is taken apart.
 use mathlib.Core.Path.{_≡_}
 use mathlib.Core.List.{[]}
 use mathlib.Core.Bool.{Bool, true, false}
@@ -6,15 +6,10 @@ use Prim.Native.Nat.{ℕ}
 use Rattle.base.specs.Decide.{pick}
 use Rattle.state.specs.declared.Place.{Place}
 use Rattle.state.specs.declared.Tag.{Tag}
-use Rattle.state.specs.declared.Tapping.{Tapping}
-use Rattle.state.specs.State.{quieted}
+use Rattle.state.specs.State.{quieted, placed, tapped}
 use Rattle.answer.specs.declared.Done.{Done}
 use Rattle.answer.specs.Answer.{Answer, Gives, given, refusal}
 use Rattle.selects.specs.Selects.{selectedFile}
-
-abbrev pub placed : Tag → Place → Tapping → Tag
-placed t p q =
-    record { uid = t .uid; files = t .files; secrets = t .secrets; live = t .live; pending = t .pending; place = p; tap = q }
 
 abbrev pub atFile : ℕ → Place
 atFile n = record { application = true; file = n }
@@ -26,12 +21,12 @@ unless : (b : Bool) (x y : Answer) (d : Done) → b ≡ false → Gives y d → 
 unless b x y d e h = rw e h
 
 pub file-there : (t : Tag) (n : ℕ) (d : Done) → t .place .application ≡ true
-    → Gives (given (placed t (atFile n) (quieted (t .tap))) 0x9000 []) d → Gives (selectedFile t n) d
+    → Gives (given (placed (tapped t (quieted (t .tap))) (atFile n)) 0x9000 []) d → Gives (selectedFile t n) d
 unfolding selectedFile
 file-there t n d e h =
-    when (t .place .application) (given (placed t (atFile n) (quieted (t .tap))) 0x9000 []) (refusal t 0x6A82) d e h
+    when (t .place .application) (given (placed (tapped t (quieted (t .tap))) (atFile n)) 0x9000 []) (refusal t 0x6A82) d e h
 
 pub file-not : (t : Tag) (n : ℕ) (d : Done) → t .place .application ≡ false → Gives (refusal t 0x6A82) d → Gives (selectedFile t n) d
 unfolding selectedFile
 file-not t n d e h =
-    unless (t .place .application) (given (placed t (atFile n) (quieted (t .tap))) 0x9000 []) (refusal t 0x6A82) d e h
+    unless (t .place .application) (given (placed (tapped t (quieted (t .tap))) (atFile n)) 0x9000 []) (refusal t 0x6A82) d e h

@@ -7,39 +7,18 @@ use lib.ListN.{length}
 use Rattle.base.specs.Decide.{pick, or}
 use Rattle.base.specs.Bytes.{byteAt, same}
 use Rattle.state.specs.declared.Tag.{Tag}
-use Rattle.state.specs.State.{noLive, noPending, quieted}
+use Rattle.state.specs.State.{quieted, tapped, placed, endedOf}
 use Rattle.answer.specs.Answer.{Answer, given, refusal}
 
 -- Selecting PICC or application ends session and file selection
 unfoldable pub moved : Tag → Bool → Answer
-moved t application =
-    given
-    (record {
-      uid = t .uid;
-      files = t .files;
-      secrets = t .secrets;
-      live = noLive;
-      pending = noPending;
-      place = record { application = application; file = 0 };
-      tap = quieted (t .tap);
-    })
-    0x9000 []
+moved t application = given (placed (endedOf t) (record { application = application; file = 0 })) 0x9000 []
 
 -- a file keeps the session, and needs the application
 unfoldable pub selectedFile : Tag → ℕ → Answer
 selectedFile t n =
     pick (t .place .application)
-    (given
-    (record {
-      uid = t .uid;
-      files = t .files;
-      secrets = t .secrets;
-      live = t .live;
-      pending = t .pending;
-      place = record { application = true; file = n };
-      tap = quieted (t .tap);
-    })
-    0x9000 [])
+    (given (placed (tapped t (quieted (t .tap))) (record { application = true; file = n })) 0x9000 [])
     (refusal t 0x6A82)
 
 -- 3F00 (or nothing), E110, or E103 to E105; an id not 0 or 2 bytes 6A80; unknown 6A82

@@ -11,11 +11,11 @@ use Rattle.messaging.specs.declared.Mode.{Mode}
 use Rattle.messaging.specs.declared.Mode.the-variants.{Plain, Mac, Full}
 use Rattle.messaging.specs.Reply.{overlong, closedLength, hiddenLength}
 use Rattle.state.specs.declared.Tag.{Tag}
-use Rattle.state.specs.State.{readingIn, endedOf}
+use Rattle.state.specs.State.{readingIn, endedOf, placed, talking, tapped}
 use Rattle.answer.specs.Answer.{Answer, refusal, accepted, afterwards}
 use Rattle.answer.specs.Taps.{shown}
-use Rattle.answer.specs.Filing.{storedIso, tapped, tapRead}
-use Rattle.auth.specs.Parts.{talking, begun, enteredFirst, enteredNext, entered}
+use Rattle.answer.specs.Filing.{storedIso, tapRead}
+use Rattle.auth.specs.Parts.{begun, enteredFirst, enteredNext, entered}
 use Rattle.selects.specs.Selects.{moved, selectedFile}
 use Rattle.tag.specs.Call.{answered}
 use Rattle.series.specs.Series.{accepting}
@@ -75,7 +75,7 @@ accepted-none t m = rw (short-none m) refl
 
 -- ---- a status that does not pass
 ended-kinds : (t : Tag) (c random : List ℕ) → Kinds t c random (EndedOr t)
-unfolding refusal begun entered enteredFirst enteredNext accepted tapRead storedIso moved selectedFile
+unfolding refusal begun entered enteredFirst enteredNext accepted tapRead storedIso moved selectedFile placed endedOf talking tapped
 ended-kinds t c random =
     record {
       refuses = λ s h. record { state = refl; empty = refl };
@@ -102,11 +102,11 @@ otherwise-ended t c random = every-answer t c random (EndedOr t) (ended-kinds t 
 
 -- ---- a status that does not accept
 same-ended : (t : Tag) → Same t (endedOf t)
-unfolding endedOf
+unfolding endedOf talking
 same-ended t = record { files = refl; secrets = refl }
 
 same-kinds : (t : Tag) (c random : List ℕ) → Kinds t c random (SameOr t)
-unfolding refusal endedOf begun entered enteredFirst enteredNext talking accepted afterwards tapRead tapped storedIso moved selectedFile
+unfolding refusal endedOf begun entered enteredFirst enteredNext talking accepted afterwards tapRead tapped storedIso moved selectedFile placed
 same-kinds t c random =
     record {
       refuses = λ s h. record { files = refl; secrets = refl };

@@ -13,16 +13,16 @@ use Rattle.settings.specs.Spans.{span, uidSpan, counterSpan, piccSpan, encSpan,
 use Rattle.settings.specs.Normal.{normal}
 use Rattle.settings.specs.Answers.{judged}
 use Rattle.settings.proofs.Examples.{example, shown}
-use Rattle.state.specs.State.{startOf, sizeOf as fileSize, fileOf, slotOf, rulesOf, readingIn, noLive, noPending, quieted, endedOf}
+use Rattle.state.specs.State.{startOf, sizeOf as fileSize, fileOf, slotOf, rulesOf, readingIn, noLive, noPending, quieted, endedOf, placed, talking, tapped}
 use Rattle.state.specs.Fresh.{container, deliveredFiles, freshTag}
-use Rattle.state.specs.Access.{granted, readGrant, fileMode, accessFor, accessStatus}
+use Rattle.state.specs.Access.{granted, readGrant, fileMode, accessFor, accessStatus, grantStatus}
 use Rattle.answer.specs.Answer.{refusal, raised, sessionOf, afterwards, accepted}
 use Rattle.answer.specs.Filing.{stored, storedIso}
-use Rattle.strings.specs.Strings.{settingsReply, fileSettings}
+use Rattle.details.specs.Details.{settingsReply, fileSettings}
 use Rattle.contents.specs.Contents.{readData}
 use Rattle.selects.specs.Selects.{moved, selectedFile, ofId, byId, byName, selected}
-use Rattle.binaries.specs.Binaries.{mayPass, mayUse, readPart as readPartIso, readRange, readBinary}
-use Rattle.tag.specs.Wrapped.{oneOf, formRight, partOf, orderStatus, headerLength, hasData, fileStatus, byteStatus, frontStatus, own, inMode, talk, commanded, wrapped}
+use Rattle.binaries.specs.Binaries.{mayPass, mayUse, isoPart, readRange, readBinary}
+use Rattle.tag.specs.Wrapped.{oneOf, formRight, commandData, orderStatus, headerLength, hasData, fileStatus, byteStatus, frontStatus, own, fromStep7, fromStep5, commanded, wrapped}
 use Rattle.tag.specs.InterIndustry.{isoForm, lcOf, hasLe, dataOf, fits, onFile, isoCommanded, interIndustry}
 use Rattle.tag.specs.Call.{answered, withStatus, replyOf}
 use Rattle.series.specs.Worked.{selectApplication, selectFile, settingsOf, readThird, inApplication, onSecond}
@@ -42,7 +42,7 @@ pub record Examples (uid random : List ℕ) : Type 0 where
   pub mac-at-63 : judged 2 (example 63 63) ≡ Refused ParameterError
 
 pub examples : (uid random : List ℕ) → Examples uid random
-unfolding selectApplication selectFile settingsOf readThird inApplication onSecond same number low content signed sent macRight partRight lengthRight checked opening openedStatus closed closedLength overlong sdmOn sdmByte modeOf headOf hasUid hasCounter hasPicc hasMac hasEnc present three fields ends placesOf placesIn sizeOf readOf span uidSpan counterSpan piccSpan encSpan macSpan readingOf startOf fileSize fileOf slotOf rulesOf readingIn noLive noPending quieted endedOf container deliveredFiles freshTag granted readGrant fileMode accessFor accessStatus refusal raised sessionOf afterwards accepted stored storedIso settingsReply fileSettings readData moved selectedFile ofId byId byName selected mayPass mayUse readPartIso readRange readBinary oneOf formRight partOf orderStatus headerLength hasData fileStatus byteStatus frontStatus own inMode talk commanded wrapped isoForm lcOf hasLe dataOf fits onFile isoCommanded interIndustry answered withStatus replyOf
+unfolding selectApplication selectFile settingsOf readThird inApplication onSecond same number low content signed sent macRight partRight lengthRight checked opening openedStatus closed closedLength overlong sdmOn sdmByte modeOf headOf hasUid hasCounter hasPicc hasMac hasEnc present three fields ends placesOf placesIn sizeOf readOf span uidSpan counterSpan piccSpan encSpan macSpan readingOf startOf fileSize fileOf slotOf rulesOf readingIn noLive noPending quieted endedOf container deliveredFiles freshTag granted readGrant fileMode accessFor accessStatus grantStatus refusal raised sessionOf afterwards accepted stored storedIso settingsReply fileSettings readData moved selectedFile ofId byId byName selected mayPass mayUse isoPart readRange readBinary oneOf formRight commandData orderStatus headerLength hasData fileStatus byteStatus frontStatus own fromStep7 fromStep5 commanded wrapped isoForm lcOf hasLe dataOf fits onFile isoCommanded interIndustry answered withStatus replyOf talking placed tapped
 examples uid random =
     record {
       select-application = refl;

@@ -13,11 +13,10 @@ use Rattle.messaging.specs.declared.Closed.the-variants.{Over}
 use Rattle.messaging.specs.Reply.{overlong, closedStatus}
 use Rattle.state.specs.declared.Secrets.{Secrets}
 use Rattle.state.specs.declared.Tag.{Tag}
-use Rattle.state.specs.State.{rulesOf, readingIn, noLive, noPending, quieted, endedOf}
+use Rattle.state.specs.State.{rulesOf, readingIn, noLive, noPending, quieted, endedOf, filed, keyed, talking}
 use Rattle.state.specs.Sound.{rulesSound, keysSound, aloneSound, levelSound, soundTag}
 use Rattle.answer.specs.Answer.{Answer, refusal, accepted, afterwards, raised}
-use Rattle.answer.specs.Filing.{withBytes, filed}
-use Rattle.keyring.specs.Keyring.{keyed}
+use Rattle.answer.specs.Filing.{withBytes}
 use Rattle.series.specs.Series.{Slots}
 use Rattle.series.proofs.Choices.{way, both-true}
 use Rattle.series.proofs.Clauses.{level-still, level-quiet, keys-none, alone-quiet}
@@ -72,7 +71,7 @@ fine-sound t h =
 
 -- ---- what ends, and what goes on
 pub fine-ended : (t : Tag) → Calm t → Fine (endedOf t)
-unfolding endedOf noLive noPending quieted
+unfolding endedOf noLive noPending quieted talking
 fine-ended t c =
     record {
       calm =
@@ -90,7 +89,7 @@ fine-ended t c =
     }
 
 pub fine-after : (t : Tag) → Calm t → Fine (afterwards t)
-unfolding afterwards raised quieted
+unfolding afterwards raised quieted talking
 fine-after t c =
     record {
       calm =

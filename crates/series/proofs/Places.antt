@@ -15,7 +15,7 @@ use Rattle.base.specs.Bytes.{byteAt, laid}
 use Rattle.base.proofs.Bytes.{le-or-lt, laid-not, laid-length}
 use Rattle.state.specs.declared.Files.{Files}
 use Rattle.state.specs.State.{slotOf, rulesOf}
-use Rattle.strings.specs.Strings.{withRules}
+use Rattle.details.specs.Details.{withRules}
 
 -- a part of a list, cut out in one order or the other
 part-cut : (a n : ℕ) (x : List ℕ) → a ≤ length x → take n (drop a x) ≡ drop a (take (a + n) x)
@@ -67,32 +67,47 @@ byte-part : (x : List ℕ) (j : ℕ) → byteAt x j ≡ byteAt (take 1 (drop j x
 byte-part x j = sym (getD-take 1 (drop j x) 0 0 (omega arith) ∙ getD-drop j x 0 0 ∙ ap (λ k. getD x k 0) (add-zero j))
 
 -- ---- slots
+apart : (i j : ℕ) → (i ≡ j → ⊥) → (i < j) ⊎ (j < i)
+apart i j e = ⊎-elim (λ p. ⊎-elim (λ q. absurd (e (omega arith))) (λ q. inl q) (le-or-lt j i)) (λ p. inr p) (le-or-lt i j)
+
+-- the stored lengths: another slot's stays, and a slot's own is the new one
+pub length-other : (n k : ℕ) (f : Files) (text : List ℕ) (len : ℕ) → (slotOf n ≡ slotOf k → ⊥)
+    → byteAt (withRules f n text len .lens) (slotOf k) ≡ byteAt (f .lens) (slotOf k)
+unfolding withRules
+length-other n k f text len h =
+    let away : (slotOf n < slotOf k) ⊎ (slotOf k < slotOf n) = apart (slotOf n) (slotOf k) h in
+    byte-part (laid (len ∷ []) (slotOf n) (f .lens)) (slotOf k)
+    ∙ ap (λ x. byteAt x 0) (part-stays (len ∷ []) (f .lens) (slotOf n) (slotOf k) 1 (⊎-elim (λ a. inl (omega arith)) (λ a. inr (omega arith)) away))
+    ∙ sym (byte-part (f .lens) (slotOf k))
+
+pub length-same : (n k : ℕ) (f : Files) (text : List ℕ) (len : ℕ) → length (f .lens) ≡ 3 → slotOf n ≡ slotOf k → slotOf k ≤ 2
+    → byteAt (withRules f n text len .lens) (slotOf k) ≡ len
+unfolding withRules
+length-same n k f text len e same small =
+    let i : ℕ = slotOf k in
+    ap (λ j. byteAt (laid (len ∷ []) j (f .lens)) i) same
+    ∙ byte-part (laid (len ∷ []) i (f .lens)) i
+    ∙ ap (λ x. byteAt x 0) (laid-there (len ∷ []) (f .lens) i (omega arith))
+
 pub slot-other : (n k : ℕ) (f : Files) (text : List ℕ) (len : ℕ) → length text ≡ 27 → (slotOf n ≡ slotOf k → ⊥)
     → rulesOf (withRules f n text len) k ≡ rulesOf f k
 unfolding rulesOf withRules
 slot-other n k f text len l h =
     let away : (slotOf n < slotOf k) ⊎ (slotOf k < slotOf n) = apart (slotOf n) (slotOf k) h in
-    let b : byteAt (laid (len ∷ []) (slotOf n) (f .lens)) (slotOf k) ≡ byteAt (f .lens) (slotOf k) =
-    byte-part (laid (len ∷ []) (slotOf n) (f .lens)) (slotOf k)
-    ∙ ap (λ x. byteAt x 0) (part-stays (len ∷ []) (f .lens) (slotOf n) (slotOf k) 1 (⊎-elim (λ a. inl (omega arith)) (λ a. inr (omega arith)) away))
-    ∙ sym (byte-part (f .lens) (slotOf k)) in
+    let b : byteAt (laid (len ∷ []) (slotOf n) (f .lens)) (slotOf k) ≡ byteAt (f .lens) (slotOf k) = length-other n k f text len h in
     let r : take 27 (drop (slotOf k * 27) (laid text (slotOf n * 27) (f .rules))) ≡ take 27 (drop (slotOf k * 27) (f .rules)) =
     part-stays text (f .rules) (slotOf n * 27) (slotOf k * 27) 27 (⊎-elim (λ a. inl (omega arith)) (λ a. inr (omega arith)) away) in
     ap₂ (λ x y. take x y) b r
-  where
-    apart : (i j : ℕ) → (i ≡ j → ⊥) → (i < j) ⊎ (j < i)
-    apart i j e = ⊎-elim (λ p. ⊎-elim (λ q. absurd (e (omega arith))) (λ q. inl q) (le-or-lt j i)) (λ p. inr p) (le-or-lt i j)
 
 pub slot-same : (n k : ℕ) (f : Files) (text : List ℕ) (len : ℕ) → length text ≡ 27 → length (f .rules) ≡ 81 → length (f .lens) ≡ 3
     → slotOf n ≡ slotOf k → slotOf k ≤ 2 → rulesOf (withRules f n text len) k ≡ take len text
 unfolding rulesOf withRules
 slot-same n k f text len l r e same small =
     let i : ℕ = slotOf k in
-    let b : byteAt (laid (len ∷ []) i (f .lens)) i ≡ len =
-    byte-part (laid (len ∷ []) i (f .lens)) i ∙ ap (λ x. byteAt x 0) (laid-there (len ∷ []) (f .lens) i (omega arith)) in
+    let b : byteAt (laid (len ∷ []) (slotOf n) (f .lens)) i ≡ len = length-same n k f text len e same small in
     let t : take 27 (drop (i * 27) (laid text (i * 27) (f .rules))) ≡ text =
     ap (λ x. take x (drop (i * 27) (laid text (i * 27) (f .rules)))) (sym l) ∙ laid-there text (f .rules) (i * 27) (omega arith) in
-    ap (λ j. take (byteAt (laid (len ∷ []) j (f .lens)) i) (take 27 (drop (i * 27) (laid text (j * 27) (f .rules))))) same ∙ ap₂ (λ x y. take x y) b t
+    ap₂ (λ x y. take x y) b (ap (λ j. take 27 (drop (i * 27) (laid text (j * 27) (f .rules)))) same ∙ t)
 
 -- the file of a slot
 slot-file : (n : ℕ) → slotOf n ≤ 2 → n ≡ slotOf n + 1

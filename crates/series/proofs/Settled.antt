@@ -10,7 +10,7 @@ use lib.Seq.{take-at}
 use borrow.Author.Tests.{eqb-true, ltb-true, le-leb, eq-eqb}
 use Rattle.base.specs.Decide.{pick, and, or}
 use Rattle.base.specs.Bytes.{byteAt}
-use Rattle.base.proofs.Bytes.{and-left, laid-length, same-refl}
+use Rattle.base.proofs.Bytes.{and-left, and-right, laid-length, same-refl}
 use Rattle.messaging.specs.declared.Mode.{Mode}
 use Rattle.settings.specs.declared.Reading.{Reading}
 use Rattle.settings.specs.declared.Verdict.{Verdict}
@@ -26,15 +26,15 @@ use Rattle.settings.proofs.Mirrors.{good-length}
 use Rattle.state.specs.declared.Files.{Files}
 use Rattle.state.specs.declared.Tag.{Tag}
 use Rattle.mirror.specs.Mirrors.{laidOf}
-use Rattle.state.specs.State.{fileOf, slotOf, rulesOf, readingIn}
+use Rattle.state.specs.State.{fileOf, slotOf, rulesOf, readingIn, filed, tapped}
 use Rattle.state.specs.Sound.{good, rulesSound}
 use Rattle.answer.specs.declared.Shown.{Shown}
 use Rattle.answer.specs.Taps.{goesOn, startStatus, counted, mirrorFor, shown}
-use Rattle.answer.specs.Filing.{tapped, tapRead}
-use Rattle.strings.specs.Strings.{withRules, recounted, restrung, byVerdict}
+use Rattle.answer.specs.Filing.{tapRead}
+use Rattle.details.specs.Details.{withRules, recounted, restrung, byVerdict}
 use Rattle.series.specs.Series.{Slots}
 use Rattle.series.proofs.Choices.{not-both, way}
-use Rattle.series.proofs.Places.{slot-other, slot-same, same-slot}
+use Rattle.series.proofs.Places.{length-other, length-same, slot-other, slot-same, same-slot}
 use Rattle.series.proofs.Clauses.{level-file, level-on, level-selected, alone-tap}
 use Rattle.series.proofs.Fine.{Calm, Fine, FineAfter, fine-refused, fine-accepted}
 
@@ -45,11 +45,12 @@ good-is (Refused s) e = absurd (not-both e)
 
 pub rules-good : (f : Files) (n : ℕ) → rulesSound f n ≡ true → judged n (rulesOf f n) ≡ Good
 unfolding rulesSound
-rules-good f n e = good-is (judged n (rulesOf f n)) (and-left _ _ e)
+rules-good f n e = good-is (judged n (rulesOf f n)) (and-left _ _ (and-right (leb (byteAt (f .lens) (slotOf n)) 27) _ e))
 
-normal-sound : (f : Files) (n : ℕ) (s : List ℕ) → rulesOf f n ≡ s → judged n s ≡ Good → normal s ≡ s → rulesSound f n ≡ true
+normal-sound : (f : Files) (n : ℕ) (s : List ℕ) → byteAt (f .lens) (slotOf n) ≤ 27 → rulesOf f n ≡ s → judged n s ≡ Good → normal s ≡ s
+    → rulesSound f n ≡ true
 unfolding rulesSound
-normal-sound f n s e g h = rw (e, g, h) (same-refl s)
+normal-sound f n s l e g h = rw (le-leb (byteAt (f .lens) (slotOf n)) 27 l, e, g, h) (same-refl s)
 
 unfoldable pub padOut : List ℕ → List ℕ
 padOut p = normal p ++ replicate (27 - length p) 0
@@ -75,10 +76,13 @@ module _ (f : Files) (r : length (f .rules) ≡ 81) (l : length (f .lens) ≡ 3)
       by : (b : Bool) → eqb (slotOf n) (slotOf k) ≡ b → rulesSound (withRules f n (padOut p) (length p)) k ≡ true
       by true q =
           let s : slotOf n ≡ slotOf k = eqb-true (slotOf n) (slotOf k) q in
-          normal-sound (withRules f n (padOut p) (length p)) k (normal p) (restored k s h)
+          let b : byteAt (withRules f n (padOut p) (length p) .lens) (slotOf k) ≡ length p = length-same n k f (padOut p) (length p) l s h in
+          let z : length p ≤ 27 = good-length n p g .1 in
+          normal-sound (withRules f n (padOut p) (length p)) k (normal p) (omega (arith, b, z)) (restored k s h)
           (subst (λ j. judged j (normal p) ≡ Good) (same-slot n k s h) (normal-good n p g .0)) (normal-twice p)
       by false q =
-          rw (slot-other n k f (padOut p) (length p) whole (λ s. not-both (sym q ∙ eq-eqb (slotOf n) (slotOf k) s))) e
+          let o : slotOf n ≡ slotOf k → ⊥ = λ s. not-both (sym q ∙ eq-eqb (slotOf n) (slotOf k) s) in
+          rw (length-other n k f (padOut p) (length p) o, slot-other n k f (padOut p) (length p) whole o) e
 
 slots-restrung : (f : Files) (n : ℕ) (text : List ℕ) (len : ℕ) → length (f .rules) ≡ 81 → length (f .lens) ≡ 3 → (t : Tag)
     → t .files ≡ withRules f n text len → Slots t
@@ -108,7 +112,7 @@ counter-restrung false counter e = e
 
 pub calm-restrung : (t : Tag) → Calm t → (n : ℕ) (p : List ℕ) → judged n p ≡ Good
     → Calm (restrung t (withRules (t .files) n (padOut p) (length p)) n)
-unfolding restrung recounted
+unfolding restrung recounted tapped filed
 calm-restrung t c n p g =
     let f = withRules (t .files) n (padOut p) (length p) in
     let stays : (k : ℕ) → slotOf k ≤ 2 → rulesSound (t .files) k ≡ true → rulesSound f k ≡ true =

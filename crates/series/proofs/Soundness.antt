@@ -10,12 +10,11 @@ use Rattle.messaging.specs.declared.Mode.the-variants.{Full}
 use Rattle.state.specs.declared.Live.{Live}
 use Rattle.state.specs.declared.Pending.{Pending}
 use Rattle.state.specs.declared.Tag.{Tag}
-use Rattle.state.specs.State.{readingIn, noLive, noPending, quieted}
+use Rattle.state.specs.State.{readingIn, noLive, noPending, quieted, endedOf, filed, keyed, placed, talking, tapped}
 use Rattle.state.specs.Sound.{keysSound, soundTag}
 use Rattle.answer.specs.Answer.{Answer}
-use Rattle.answer.specs.Filing.{storedIso, withBytes, filed}
-use Rattle.auth.specs.Parts.{talking, begun, sessionFrom, enteredFirst, enteredNext, entered}
-use Rattle.keyring.specs.Keyring.{keyed}
+use Rattle.answer.specs.Filing.{storedIso, withBytes}
+use Rattle.auth.specs.Parts.{begun, sessionFrom, enteredFirst, enteredNext, entered}
 use Rattle.selects.specs.Selects.{moved, selectedFile}
 use Rattle.tag.specs.Call.{answered, outcomeOf, replied, unanswered, byOutcome}
 use Rattle.tag.specs.declared.Outcome.{Outcome}
@@ -60,12 +59,12 @@ unfolding entered enteredFirst enteredNext sessionFrom noPending
 fine-entered t c p kx a random =
     let k = keys-entered (t .pending .key) (keys-pending (t .live .on) (t .pending .on) (t .live .key) (t .pending .key) (c .keys) p) in
     let h = level-pending (t .place .application) (t .live .on) (t .pending .on) (t .tap .on) (t .place .file) (c .level) p in
-    way FineAfter (t .pending .first) (λ e. fine-talking t c (sessionFrom (t .pending) kx a (drop 16 random)) noPending k h)
-    (λ e. fine-talking t c (sessionFrom (t .pending) kx a (t .pending .ti)) noPending k h)
+    way FineAfter (t .pending .first) (λ e. fine-talking t c (sessionFrom (t .pending) kx a (drop 16 random) 0) noPending k h)
+    (λ e. fine-talking t c (sessionFrom (t .pending) kx a (t .pending .ti) (t .pending .counter)) noPending k h)
 
 -- ---- selects
 fine-moved : (t : Tag) → Calm t → (application : Bool) → FineAfter (moved t application)
-unfolding moved noLive noPending quieted
+unfolding moved noLive noPending quieted placed endedOf talking
 fine-moved t c application =
     record {
       calm =
@@ -83,7 +82,7 @@ fine-moved t c application =
     }
 
 fine-selected : (t : Tag) → Calm t → (n : ℕ) → n ≤ 3 → FineAfter (selectedFile t n)
-unfolding selectedFile quieted
+unfolding selectedFile quieted placed tapped
 fine-selected t c n h =
     way FineAfter (t .place .application)
     (λ e.

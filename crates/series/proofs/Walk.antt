@@ -27,19 +27,19 @@ use Rattle.state.specs.declared.Access.the-variants.{In, Never, Denied}
 use Rattle.state.specs.declared.Pending.{Pending}
 use Rattle.state.specs.declared.Secrets.{Secrets}
 use Rattle.state.specs.declared.Tag.{Tag}
-use Rattle.state.specs.State.{sizeOf, readingIn, keyIn, endedOf}
+use Rattle.state.specs.State.{sizeOf, readingIn, keyIn, endedOf, filed, keyed}
 use Rattle.state.specs.Access.{accessFor, accessStatus}
 use Rattle.answer.specs.Answer.{Answer, given, refusal, accepted, afterwards}
 use Rattle.answer.specs.Taps.{shown}
-use Rattle.answer.specs.Filing.{stored, storedIso, tapRead, withBytes, filed}
+use Rattle.answer.specs.Filing.{stored, storedIso, tapRead, withBytes}
 use Rattle.auth.specs.Parts.{keyStatus, valuesStatus, firstStatus, nextStatus, pendingFirst, pendingNext, begun, entered, byProof, partOneFirst, partOneNext, partTwoAnswer}
-use Rattle.keyring.specs.Keyring.{newKey, changeStatus, withKey, keyed, changedKey, keyVersion}
-use Rattle.strings.specs.Strings.{cardUid, fileSettings, changedSettings, byVerdict, fileCounters}
+use Rattle.keyring.specs.Keyring.{newKey, changeStatus, withKey, changedKey, keyVersion}
+use Rattle.details.specs.Details.{cardUid, fileSettings, changedSettings, byVerdict, fileCounters}
 use Rattle.settings.specs.Fields.{three}
-use Rattle.contents.specs.Contents.{rangeStatus, asked, readPart, readData, writeStatus, writtenData}
+use Rattle.contents.specs.Contents.{rangeStatus, asked, wrappedPart, readData, writeStatus, writtenData}
 use Rattle.selects.specs.Selects.{moved, selectedFile, ofId, byId, byName, selected, piccName, applicationName}
-use Rattle.binaries.specs.Binaries.{mayUse, tapStatus, readPart as readPartIso, readRange, readBinary, updateRange, updatedBinary}
-use Rattle.tag.specs.Wrapped.{oneOf, formRight, partOf, wrappedCommands, orderStatus, headerLength, byteStatus, frontStatus, own, openingOf, onOpening, inMode, onAccess, talk, commanded, wrapped}
+use Rattle.binaries.specs.Binaries.{mayUse, tapStatus, isoPart, readRange, readBinary, updateRange, updatedBinary}
+use Rattle.tag.specs.Wrapped.{oneOf, formRight, commandData, wrappedCommands, orderStatus, headerLength, byteStatus, frontStatus, own, openingOf, onOpening, fromStep7, onAccess, fromStep5, commanded, wrapped}
 use Rattle.tag.specs.InterIndustry.{isoForm, fits, dataOf, onFile, isoCommands, isoCommanded, interIndustry}
 use Rattle.tag.specs.Call.{answered}
 use Rattle.series.specs.Series.{accepting}
@@ -49,9 +49,9 @@ use Rattle.series.proofs.Choices.{not-both, way, or-left, or-right, not
 pub record Sent (t : Tag) (c : List ℕ) (n : ℕ) (p : List ℕ) (m : Mode) : Type 0 where
   pub class : byteAt c 0 ≡ 0x90
   pub command : byteAt c 1 ≡ 0x5F
-  pub file : n ≡ byteAt (partOf c) 0
+  pub file : n ≡ byteAt (commandData c) 0
   pub granted : accessFor 0x5F (t .live) (readingIn (t .files) n .settings .head) ≡ In m
-  pub opened : openingOf t 0x5F (partOf c) m ≡ plain p
+  pub opened : openingOf t 0x5F (commandData c) m ≡ plain p
 
 -- the kinds of answers of a tag to a command, each under what is known where it is given
 pub record Kinds (t : Tag) (c random : List ℕ) (P : Answer → Type 0) : Type 0 where
@@ -193,7 +193,7 @@ module _ (t : Tag) (c random : List ℕ) (P : Answer → Type 0) (k : Kinds t c 
       way P (eqb s 0) (λ e. k .writes n (three x 1) p m) (λ e. k .refuses s)
 
   read-kind : (n : ℕ) (x : List ℕ) (m : Mode) → t .pending .on ≡ false → t .place .application ≡ true → P (readData t n x m random)
-  unfolding readData readPart stored
+  unfolding readData wrappedPart stored
   read-kind n x m p a =
       let s = rangeStatus (three x 1) (three x 4) (sizeOf n) in
       let count = asked (three x 1) (three x 4) (sizeOf n) in
@@ -225,7 +225,7 @@ module _ (t : Tag) (c random : List ℕ) (P : Answer → Type 0) (k : Kinds t c 
   ins = byteAt c 1
 
   part : List ℕ
-  part = partOf c
+  part = commandData c
 
   head : Head
   head = readingIn (t .files) (byteAt part 0) .settings .head
@@ -238,8 +238,8 @@ module _ (t : Tag) (c random : List ℕ) (P : Answer → Type 0) (k : Kinds t c 
         class = class;
         command = e;
         file = refl;
-        granted = subst (λ i. accessFor i (t .live) (readingIn (t .files) (byteAt (partOf c) 0) .settings .head) ≡ In m) e a;
-        opened = subst (λ i. openingOf t i (partOf c) m ≡ plain p) e o;
+        granted = subst (λ i. accessFor i (t .live) (readingIn (t .files) (byteAt (commandData c) 0) .settings .head) ≡ In m) e a;
+        opened = subst (λ i. openingOf t i (commandData c) m ≡ plain p) e o;
       }
 
   opening-kind : (m : Mode) → byteAt c 0 ≡ 0x90 → t .pending .on ≡ false → t .place .application ≡ true
@@ -250,8 +250,8 @@ module _ (t : Tag) (c random : List ℕ) (P : Answer → Type 0) (k : Kinds t c 
   opening-kind m class off a g wrongPadding e = k .refuses (openedStatus WrongPadding)
 
   mode-kind : (m : Mode) → byteAt c 0 ≡ 0x90 → t .pending .on ≡ false → t .place .application ≡ true
-      → accessFor ins (t .live) head ≡ In m → P (inMode t ins part m random)
-  unfolding inMode
+      → accessFor ins (t .live) head ≡ In m → P (fromStep7 t ins part m random)
+  unfolding fromStep7
   mode-kind m class off a g =
       way P (and (t .live .on) (eqb (t .live .counter) 65535)) (λ e. k .refuses 0x91AE)
       (λ e. opening-kind m class off a g (openingOf t ins part m) refl)
@@ -262,8 +262,8 @@ module _ (t : Tag) (c random : List ℕ) (P : Answer → Type 0) (k : Kinds t c 
   access-kind class off p Never e = k .refuses (accessStatus Never)
   access-kind class off p Denied e = k .refuses (accessStatus Denied)
 
-  talk-kind : byteAt c 0 ≡ 0x90 → t .pending .on ≡ false → P (talk t ins part random)
-  unfolding talk head
+  talk-kind : byteAt c 0 ≡ 0x90 → t .pending .on ≡ false → P (fromStep5 t ins part random)
+  unfolding fromStep5 head
   talk-kind class off =
       let s = frontStatus ins part (t .place .application) in
       way P (eqb s 0)
@@ -314,7 +314,7 @@ module _ (t : Tag) (c random : List ℕ) (P : Answer → Type 0) (k : Kinds t c 
       (λ e. k .refuses 0x6A86)
 
   binary-kind : (at le : ℕ) → t .pending .on ≡ false → eqb (t .place .file) 0 ≡ false → P (readBinary t at le random)
-  unfolding readBinary readRange readPartIso
+  unfolding readBinary readRange isoPart
   binary-kind at le off f =
       let n = t .place .file in
       let left = sizeOf n - at in

@@ -17,7 +17,7 @@ use Rattle.tag.specs.declared.Outcome.{Outcome}
 use Rattle.tag.specs.declared.Outcome.the-variants.{Replied, SmallRoom, WrongRandom, Unsound}
 use Rattle.tag.specs.declared.Called.{Called}
 use Rattle.tag.specs.Call.{answered, replied, unanswered, outcomeOf, byOutcome, Calls}
-use Rattle.stand.specs.Answers.{madeNumber, madeImage, Makes, callNumber, callImage, isReply, Answers, stateIn, Plays}
+use Rattle.stand.specs.Answers.{makingNumber, madeImage, Makes, callNumber, callImage, isReply, Answers, stateIn, Plays}
 
 right : (s : List ℕ) → length s ≡ 672 → rightLength s ≡ true
 unfolding rightLength
@@ -37,11 +37,11 @@ pub wrong-made : (uid s : List ℕ) → (length s ≡ 672 → ⊥) → Makes uid
 wrong-made uid s h = record { number = rw (wrong s h) refl; left = rw (wrong s h) refl }
 
 pub makes : (uid s : List ℕ) (b : Birth) (m : Made) (r : ℕ) (s′ : List ℕ) → b ≡ born uid → b .made ≡ m → length s ≡ 672
-    → r ≡ madeNumber m → s′ ≡ madeImage (b .tag) s m → Makes uid s r s′
+    → r ≡ makingNumber m → s′ ≡ madeImage (b .tag) s m → Makes uid s r s′
 makes uid s b m r s′ h e l p q =
     let w : m ≡ born uid .made = sym e ∙ ap (λ x. x .made) h in
     record {
-      number = rw (right s l) (p ∙ ap madeNumber w);
+      number = rw (right s l) (p ∙ ap makingNumber w);
       left = rw (right s l) (q ∙ (λ i. madeImage (h i .tag) s (w i)));
     }
 

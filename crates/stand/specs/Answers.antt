@@ -14,7 +14,7 @@ use Rattle.settings.specs.Answers.{statusWord}
 use Rattle.state.specs.declared.Tag.{Tag}
 use Rattle.state.specs.declared.Made.{Made}
 use Rattle.state.specs.declared.Made.the-variants.{Fresh, WrongUid}
-use Rattle.state.specs.Fresh.{born}
+use Rattle.state.specs.Fresh.{born, madeNumber}
 use Rattle.image.specs.Image.{imageOf}
 use Rattle.image.specs.Answers.{rightLength, readIn}
 use Rattle.answer.specs.Answer.{Answer}
@@ -27,16 +27,16 @@ abbrev pub wrongImage : ℕ
 wrongImage = 1005
 
 -- ---- a fresh tag: 0, or 1000 and refusal 4
-abbrev pub madeNumber : Made → ℕ
-madeNumber Fresh = 0
-madeNumber WrongUid = 1004
+unfoldable pub makingNumber : Made → ℕ
+makingNumber Fresh = madeNumber Fresh
+makingNumber WrongUid = 1000 + madeNumber WrongUid
 
 abbrev pub madeImage : Tag → List ℕ → Made → List ℕ
 madeImage t image Fresh = imageOf t
 madeImage t image WrongUid = image
 
 pub record Makes (uid image : List ℕ) (r : ℕ) (new : List ℕ) : Type 0 where
-  pub number : r ≡ pick (rightLength image) (madeNumber (born uid .made)) wrongImage
+  pub number : r ≡ pick (rightLength image) (makingNumber (born uid .made)) wrongImage
   pub left : new ≡ pick (rightLength image) (madeImage (born uid .tag) image (born uid .made)) image
 
 -- ---- a call: the reply's length, or 1000 and the number of refusals 1 to 3

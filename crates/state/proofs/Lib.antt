@@ -1,3 +1,4 @@
+pub mod Births
 pub mod Modes
 pub mod Strings
 pub mod Truth

@@ -65,17 +65,12 @@ string-from rules lens n i len e l =
     ∙ cut-string (byteAt lens i) (drop (i * 27) rules)
     ∙ ap (λ j. take (byteAt lens j) (take 27 (drop (j * 27) rules))) e
 
-pub string-there : (f : Files) (n i len : ℕ) → i ≡ slotOf n → len ≡ cut (byteAt (f .lens) i)
-    → take (i * 27 + len - i * 27) (drop (i * 27) (f .rules)) ≡ rulesOf f n
-unfolding rulesOf
-string-there f n i len e l = string-from (f .rules) (f .lens) n i len e l
-
 -- the fields in front are a part of the whole meaning
 pub head-there : (f : Files) (n : ℕ) → headIn (f .rules) (f .lens) n ≡ readingIn f n .settings .head
 unfolding headIn readingIn rulesOf readOf readingOf
 head-there f n = refl
 
-string-short : (rules lens : List ℕ) (n : ℕ) → length (stringAt rules lens n) ≤ 27
+pub string-short : (rules lens : List ℕ) (n : ℕ) → length (stringAt rules lens n) ≤ 27
 string-short rules lens n = simp length-take (omega arith)
 
 -- what an accepted string leaves: k bytes in the room, and they are its normal form
@@ -118,7 +113,8 @@ pub string-fine : (rules lens : List ℕ) (n : ℕ)
     → fine (judged n (stringAt rules lens n)) (stringAt rules lens n) ≡ stringSound n (stringAt rules lens n)
 string-fine rules lens n = rw (le-leb (length (stringAt rules lens n)) 27 (string-short rules lens n)) refl
 
-pub rules-there : (f : Files) (n : ℕ) {b : Bool} → b ≡ stringSound n (stringAt (f .rules) (f .lens) n) → b ≡ rulesSound f n
+pub rules-there : (f : Files) (n : ℕ) {b : Bool}
+    → b ≡ and (leb (byteAt (f .lens) (slotOf n)) 27) (stringSound n (stringAt (f .rules) (f .lens) n)) → b ≡ rulesSound f n
 unfolding rulesSound rulesOf
 rules-there f n e = e
 

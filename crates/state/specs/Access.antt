@@ -63,8 +63,16 @@ accessFor ins l h =
     (pick (eqb ins 0x8D) (inMode (writeGrant l h) (fileMode (h .mode)))
     (inMode (readGrant l h) (fileMode (h .mode))))))))
 
--- 01's status of an access that isn't granted
+-- 01's status of a grant: 919D if all conditions concerned are F, else 91AE
+unfoldable pub grantStatus : Grant → ℕ
+grantStatus ByKey = 0x9100
+grantStatus ByTap = 0x9100
+grantStatus Free = 0x9100
+grantStatus Never = 0x919D
+grantStatus Denied = 0x91AE
+
+-- and of an access
 unfoldable pub accessStatus : Access → ℕ
 accessStatus (In m) = 0x9100
-accessStatus NeverIn = 0x919D
-accessStatus DeniedIn = 0x91AE
+accessStatus NeverIn = grantStatus Never
+accessStatus DeniedIn = grantStatus Denied

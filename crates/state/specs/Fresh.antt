@@ -1,6 +1,7 @@
 -- 01: "A fresh tag from a UID", and refusal 4.
 use mathlib.Core.Bool.{Bool, true, false}
 use mathlib.Core.List.{List, [], _∷_, _++_}
+use mathlib.Core.Path.{_≡_}
 use Prim.Native.Nat.{ℕ}
 use lib.Dec.{eqb}
 use lib.ListN.{length, replicate}
@@ -72,5 +73,14 @@ freshTag uid =
 unfoldable pub rightUid : List ℕ → Bool
 rightUid uid = and (eqb (length uid) 7) (eqb (byteAt uid 0) 4)
 
+-- 01's number of what a UID gives: refusal 4; 0 where there is a tag
+unfoldable pub madeNumber : Made → ℕ
+madeNumber Fresh = 0
+madeNumber WrongUid = 4
+
 unfoldable pub born : List ℕ → Birth
 born uid = pick (rightUid uid) (record { made = Fresh; tag = freshTag uid }) (record { made = WrongUid; tag = blank })
+
+pub record Births (uid : List ℕ) (r : Birth) : Type 0 where
+  pub number : madeNumber (r .made) ≡ pick (rightUid uid) 0 4
+  pub told : r ≡ born uid

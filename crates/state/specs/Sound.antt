@@ -11,7 +11,7 @@ use Rattle.settings.specs.Answers.{judged}
 use Rattle.settings.specs.Normal.{normal}
 use Rattle.state.specs.declared.Files.{Files}
 use Rattle.state.specs.declared.Tag.{Tag}
-use Rattle.state.specs.State.{rulesOf, readingIn}
+use Rattle.state.specs.State.{slotOf, rulesOf, readingIn}
 
 abbrev pub good : Verdict → Bool
 good Good = true
@@ -21,9 +21,9 @@ good (Refused e) = false
 abbrev pub stringSound : ℕ → List ℕ → Bool
 stringSound n s = and (good (judged n s)) (same s (normal s))
 
--- settings break the rules or aren't normal
+-- settings break the rules (a string has 3 to 27 bytes, so a stored length over 27 too) or aren't normal
 unfoldable pub rulesSound : Files → ℕ → Bool
-rulesSound f n = stringSound n (rulesOf f n)
+rulesSound f n = and (leb (byteAt (f .lens) (slotOf n)) 27) (stringSound n (rulesOf f n))
 
 -- key number of a session or pending part over 4; session and pending part both
 unfoldable pub keysSound : Bool → ℕ → Bool → ℕ → Bool

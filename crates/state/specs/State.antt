@@ -11,12 +11,14 @@ use Rattle.settings.specs.declared.Reading.{Reading}
 use Rattle.settings.specs.Fields.{headOf, readOf}
 use Rattle.settings.specs.Spans.{readingOf}
 use Rattle.state.specs.declared.Files.{Files}
+use Rattle.state.specs.declared.Secrets.{Secrets}
 use Rattle.state.specs.declared.Live.{Live}
 use Rattle.state.specs.declared.Pending.{Pending}
+use Rattle.state.specs.declared.Place.{Place}
 use Rattle.state.specs.declared.Tapping.{Tapping}
 use Rattle.state.specs.declared.Tag.{Tag}
 
--- one of three answers for files 1 to 3, and one for any other number
+-- one of three answers for files 1 to 3, and one that stands in for any other number, which no accepted command has
 abbrev pub byFile : ℕ → ℕ → ℕ → ℕ → ℕ → ℕ
 byFile n a b c other = pick (eqb n 1) a (pick (eqb n 2) b (pick (eqb n 3) c other))
 
@@ -35,7 +37,7 @@ fileOf f n = take (sizeOf n) (drop (startOf n) (f .bytes))
 unfoldable pub slotOf : ℕ → ℕ
 slotOf n = byFile n 0 1 2 3
 
--- the settings string of file n: as many bytes of its 27 as its length says
+-- the settings string of file n: as many bytes of its 27 as its length says (a length over 27 is not sound)
 abbrev pub stringAt : List ℕ → List ℕ → ℕ → List ℕ
 stringAt rules lens n = take (byteAt lens (slotOf n)) (take 27 (drop (slotOf n * 27) rules))
 
@@ -49,7 +51,7 @@ headIn rules lens n = headOf (stringAt rules lens n)
 unfoldable pub readingIn : Files → ℕ → Reading
 readingIn f n = readingOf (readOf (rulesOf f n))
 
--- key k; zeros for a number over 4
+-- key k; for a number over 4, which no sound state and no accepted command has, zeros stand in
 unfoldable pub keyIn : List ℕ → ℕ → List ℕ
 keyIn keys k = pick (leb k 4) (take 16 (drop (k * 16) keys)) (replicate 16 0)
 
@@ -64,15 +66,24 @@ noPending = record { on = false; first = false; key = 0; «rnd_b» = replicate 1
 unfoldable pub quieted : Tapping → Tapping
 quieted t = record { on = false; iso = false; counter = t .counter }
 
+-- The ways in which a tag changes: another tap; other files with their settings; other keys and versions; another selection;
+-- another session and pending part two, and no tap
+unfoldable pub tapped : Tag → Tapping → Tag
+tapped t p = record { uid = t .uid; files = t .files; secrets = t .secrets; live = t .live; pending = t .pending; place = t .place; tap = p }
+
+unfoldable pub filed : Tag → Files → Tag
+filed t f = record { uid = t .uid; files = f; secrets = t .secrets; live = t .live; pending = t .pending; place = t .place; tap = t .tap }
+
+unfoldable pub keyed : Tag → Secrets → Tag
+keyed t s = record { uid = t .uid; files = t .files; secrets = s; live = t .live; pending = t .pending; place = t .place; tap = t .tap }
+
+unfoldable pub placed : Tag → Place → Tag
+placed t p = record { uid = t .uid; files = t .files; secrets = t .secrets; live = t .live; pending = t .pending; place = p; tap = t .tap }
+
+unfoldable pub talking : Tag → Live → Pending → Tag
+talking t l p =
+    record { uid = t .uid; files = t .files; secrets = t .secrets; live = l; pending = p; place = t .place; tap = quieted (t .tap) }
+
 -- session, pending part two and tap have ended; files, settings, keys, versions, selection and tap counter stay
 unfoldable pub endedOf : Tag → Tag
-endedOf t =
-    record {
-      uid = t .uid;
-      files = t .files;
-      secrets = t .secrets;
-      live = noLive;
-      pending = noPending;
-      place = t .place;
-      tap = quieted (t .tap);
-    }
+endedOf t = talking t noLive noPending

@@ -1,6 +1,6 @@
 // A fresh tag: the delivery contents and rights, small constant tables copied into it.
 ghost use mathlib.Core.Path.{_≡_};
-ghost use Rattle.state.specs.Fresh.{blank, born, deliveredFiles};
+ghost use Rattle.state.specs.Fresh.{blank, deliveredFiles, Births};
 use crate::Birth;
 use crate::Files;
 use crate::Made;
@@ -91,7 +91,7 @@ fn delivered() -> Files
 
 // A fresh tag with a UID.
 pub fn fresh(uid: &[u8]) -> Birth
-    ensures { λ r. ⌜ r ≡ born (now (uid .entry)) ⌝ }
+    ensures { λ r. ⌜ Births (now (uid .entry)) r ⌝ }
 {
     let mut t = zeroed();
     if uid.len() != 7 {

@@ -3,12 +3,13 @@ ghost use mathlib.Core.Path.{_≡_};
 ghost use lib.Dec.{leb};
 ghost use lib.ListN.{length};
 ghost use Rattle.base.specs.Decide.{and};
-ghost use Rattle.state.specs.State.{stringAt};
+ghost use Rattle.base.specs.Bytes.{byteAt};
+ghost use Rattle.state.specs.State.{slotOf, stringAt};
 ghost use Rattle.state.specs.Sound.{stringSound, keysSound, aloneSound, levelSound, soundTag};
 use crate::Tag;
 use crate::parts::head_of;
 use crate::parts::slot_of;
-use crate::parts::string_len;
+use crate::parts::string_in;
 use settings::Normalised;
 
 // Whether a string of at most 27 bytes keeps the rules for a file and is its own normal form.
@@ -24,15 +25,14 @@ fn is_normal(n: u8, s: &[u8]) -> bool
     }
 }
 
-// The settings of a file keep the rules and are normal.
+// The settings of a file have at most 27 bytes, keep the rules and are normal.
 fn rules_sound(rules: &[u8; 81], lens: [u8; 3], n: u8) -> bool
-    ensures { λ r. ⌜ r ≡ stringSound n (stringAt (now (rules .entry)) lens n) ⌝ }
+    ensures { λ r. ⌜ r ≡ and (leb (byteAt lens (slotOf n)) 27) (stringSound n (stringAt (now (rules .entry)) lens n)) ⌝ }
 {
-    let all = &rules[..];
-    let i = slot_of(n);
-    let at = i * 27;
-    let len = string_len(lens, i);
-    is_normal(n, &all[at..at + len])
+    if base::at(&lens, slot_of(n)) <= 27 {
+        return is_normal(n, string_in(rules, lens, n));
+    }
+    false
 }
 
 // Key numbers over 4; session and pending part both.

@@ -21,7 +21,7 @@ pub use parts::no_pending;
 pub use parts::quiet;
 pub use parts::reading_of;
 pub use parts::slot_of;
-pub use parts::string_len;
+pub use parts::string_in;
 
 // The files' bytes (file 1 from 0, file 2 from 32, file 3 from 288), their settings strings (27 bytes for each) and the
 // strings' lengths.

@@ -3,7 +3,7 @@ ghost use mathlib.Core.Path.{_≡_};
 ghost use lib.Dec.{leb};
 ghost use Rattle.base.specs.Decide.{pick};
 ghost use Rattle.base.specs.Bytes.{byteAt};
-ghost use Rattle.state.specs.State.{startOf, sizeOf, slotOf, headIn, readingIn, keyIn, noLive, noPending, quieted, endedOf};
+ghost use Rattle.state.specs.State.{startOf, sizeOf, slotOf, stringAt, headIn, readingIn, keyIn, noLive, noPending, quieted, endedOf};
 use crate::Files;
 use crate::Live;
 use crate::Pending;
@@ -49,7 +49,7 @@ pub fn slot_of(n: u8) -> usize
 }
 
 // How many bytes the settings string in a slot has: what its length says, at most 27; none behind the last slot.
-pub fn string_len(lens: [u8; 3], i: usize) -> usize
+fn string_len(lens: [u8; 3], i: usize) -> usize
     ensures { λ r. ⌜ r ≡ pick (leb (byteAt lens i) 27) (byteAt lens i) 27 ⌝ }
 {
     let n = base::at(&lens, i) as usize;
@@ -59,15 +59,22 @@ pub fn string_len(lens: [u8; 3], i: usize) -> usize
     27
 }
 
-// What the fields in front of a file's settings string mean.
-pub fn head_of(rules: &[u8; 81], lens: [u8; 3], n: u8) -> Head
-    ensures { λ r. ⌜ r ≡ headIn (now (rules .entry)) lens n ⌝ }
+// The settings string of a file.
+pub fn string_in(rules: &[u8; 81], lens: [u8; 3], n: u8) -> &[u8]
+    ensures { λ r. ⌜ now r ≡ stringAt (now (rules .entry)) lens n ⌝ }
 {
     let all = &rules[..];
     let i = slot_of(n);
     let at = i * 27;
-    let len = string_len(lens, i);
-    settings::head_of(&all[at..at + len])
+    let end = at + string_len(lens, i);
+    &all[at..end]
+}
+
+// What the fields in front of a file's settings string mean.
+pub fn head_of(rules: &[u8; 81], lens: [u8; 3], n: u8) -> Head
+    ensures { λ r. ⌜ r ≡ headIn (now (rules .entry)) lens n ⌝ }
+{
+    settings::head_of(string_in(rules, lens, n))
 }
 
 // What a file's settings mean.
@@ -76,10 +83,7 @@ pub fn reading_of(f: Files, n: u8) -> Reading
 {
     let rules = f.rules;
     let lens = f.lens;
-    let i = slot_of(n);
-    let at = i * 27;
-    let len = string_len(lens, i);
-    settings::meaning(&rules[at..at + len])
+    settings::meaning(string_in(&rules, lens, n))
 }
 
 // Key k, and zeros for a number over 4.

@@ -12,10 +12,7 @@ use Rattle.base.specs.Decide.{pick, or}
 use Rattle.base.specs.Bytes.{byteAt, laid, over}
 use Rattle.base.proofs.Bytes.{le-or-lt, and-right, none}
 use Rattle.base.proofs.Pieces.{also}
-use Rattle.state.specs.declared.Birth.{Birth}
-use Rattle.state.specs.declared.Made.the-variants.{Fresh, WrongUid}
 use Rattle.state.specs.declared.Tag.{Tag}
-use Rattle.state.specs.Fresh.{blank, freshTag, rightUid, born}
 use Rattle.state.specs.Sound.{soundTag}
 use Rattle.answer.specs.declared.Done.{Done}
 use Rattle.answer.specs.Answer.{Answer, Gives, answerOf}
@@ -23,7 +20,7 @@ use Rattle.tag.specs.declared.Outcome.{Outcome}
 use Rattle.tag.specs.declared.Outcome.the-variants.{Replied, SmallRoom, WrongRandom, Unsound}
 use Rattle.tag.specs.declared.Called.{Called}
 use Rattle.tag.specs.InterIndustry.{isoForm, lcOf, hasLe, dataOf, fits}
-use Rattle.tag.specs.Call.{withStatus, answered, replyOf, replied, unanswered, outcomeOf, refusalNumber, refusalOf, madeNumber, byOutcome, roomBy, Laid, Calls, Replies}
+use Rattle.tag.specs.Call.{withStatus, answered, replyOf, replied, unanswered, outcomeOf, refusalNumber, refusalOf, byOutcome, roomBy, Laid, Calls, Replies}
 
 -- ---- the data of an ISO command
 -- n bytes are as many as Lc says, without Le or with it
@@ -127,12 +124,3 @@ calls t c random old r new o e p q l =
       left = rw e q;
       short = l;
     }
-
--- refusal 4 is the fresh tag's
-pub born-number : (uid : List ℕ) → madeNumber (born uid .made) ≡ pick (rightUid uid) 0 4
-unfolding madeNumber born
-born-number uid = by (rightUid uid)
-  where
-    by : (b : Bool) → madeNumber (pick {A = Birth} b (record { made = Fresh; tag = freshTag uid }) (record { made = WrongUid; tag = blank }) .made) ≡ pick b 0 4
-    by true = refl
-    by false = refl

@@ -29,11 +29,7 @@ use Rattle.state.specs.Access.{accessFor}
 use Rattle.state.proofs.Strings.{head-there}
 use Rattle.answer.specs.declared.Done.{Done}
 use Rattle.answer.specs.Answer.{Answer, Gives, refusal, sessionOf}
-use Rattle.tag.specs.Wrapped.{oneOf, formRight, partOf, orderStatus, headerLength, hasData, frontStatus, own, openingOf, onOpening, inMode, onAccess, talk, commanded, wrapped}
-
--- ---- an answer that is equal
-pub gives-as : {a b : Answer} {d : Done} → Gives a d → a ≡ b → Gives b d
-gives-as {a} {b} {d} g e = subst (λ z. Gives z d) e g
+use Rattle.tag.specs.Wrapped.{oneOf, formRight, commandData, orderStatus, headerLength, hasData, frontStatus, own, openingOf, onOpening, fromStep7, onAccess, fromStep5, commanded, wrapped}
 
 -- ---- the keys of an arm: what holds of each holds of the number, and a number that is none of them is not in the list
 abbrev pub All : (ℕ → Type 0) → List ℕ → Type 0
@@ -74,12 +70,12 @@ form-short c e h =
     (λ q. omega (arith, eqb-true (length c) (6 + byteAt c 4) (and-right (leb 1 (byteAt c 4)) (eqb (length c) (6 + byteAt c 4)) q)))
     (or-cases (eqb (length c) 5) (and (leb 1 (byteAt c 4)) (eqb (length c) (6 + byteAt c 4))) e′)
 
-pub part-none : (c : List ℕ) → length c ≤ 5 → [] ≡ partOf c
-unfolding partOf
+pub part-none : (c : List ℕ) → length c ≤ 5 → [] ≡ commandData c
+unfolding commandData
 part-none c h = let e : 0 ≡ length c - 6 = omega arith in ap (λ k. take k (drop 5 c)) e
 
-pub part-some : (c : List ℕ) → take (length c - 1 - 5) (drop 5 c) ≡ partOf c
-unfolding partOf
+pub part-some : (c : List ℕ) → take (length c - 1 - 5) (drop 5 c) ≡ commandData c
+unfolding commandData
 part-some c = let e : length c - 1 - 5 ≡ length c - 6 = omega arith in ap (λ k. take k (drop 5 c)) e
 
 pub part-short : (c : List ℕ) → length c ≤ 261 → length (take (length c - 1 - 5) (drop 5 c)) ≤ 255
@@ -145,24 +141,24 @@ module _ (t : Tag) (ins : ℕ) (x : List ℕ) (m : Mode) (random : List ℕ) (fu
   abbrev onFull : Bool → Answer
   onFull b = pick b (refusal t 0x91AE) (onOpening t ins x m random (openingOf t ins x m))
 
-  pub mode-full : full ≡ true → refusal t 0x91AE ≡ inMode t ins x m random
-  unfolding inMode
+  pub mode-full : full ≡ true → refusal t 0x91AE ≡ fromStep7 t ins x m random
+  unfolding fromStep7
   mode-full h = ap onFull (sym h ∙ e)
 
-  pub mode-open : full ≡ false → onOpening t ins x m random (openingOf t ins x m) ≡ inMode t ins x m random
-  unfolding inMode
+  pub mode-open : full ≡ false → onOpening t ins x m random (openingOf t ins x m) ≡ fromStep7 t ins x m random
+  unfolding fromStep7
   mode-open h = ap onFull (sym h ∙ e)
 
 -- ---- steps 5 and 6, by the status of the front checks
 module _ (t : Tag) (ins : ℕ) (x random : List ℕ) (s : ℕ) (e : s ≡ frontStatus ins x (t .place .application)) where
-  pub talk-refused : (s ≡ 0 → ⊥) → refusal t s ≡ talk t ins x random
-  unfolding talk
-  talk-refused h = rw (← e, ne-eqb s 0 h) refl
+  pub step-5-refused : (s ≡ 0 → ⊥) → refusal t s ≡ fromStep5 t ins x random
+  unfolding fromStep5
+  step-5-refused h = rw (← e, ne-eqb s 0 h) refl
 
-  pub talk-access : s ≡ 0 → (b : ℕ) (h : Head) (a : Access) → b ≡ byteAt x 0 → h ≡ headIn (t .files .rules) (t .files .lens) b
-      → a ≡ accessFor ins (t .live) h → onAccess t ins x random a ≡ talk t ins x random
-  unfolding talk
-  talk-access z b h a eb eh ea =
+  pub step-5-access : s ≡ 0 → (b : ℕ) (h : Head) (a : Access) → b ≡ byteAt x 0 → h ≡ headIn (t .files .rules) (t .files .lens) b
+      → a ≡ accessFor ins (t .live) h → onAccess t ins x random a ≡ fromStep5 t ins x random
+  unfolding fromStep5
+  step-5-access z b h a eb eh ea =
       let k = eh ∙ ap (headIn (t .files .rules) (t .files .lens)) eb ∙ head-there (t .files) (byteAt x 0) in
       ap (onAccess t ins x random) (ea ∙ ap (accessFor ins (t .live)) k)
       ∙ rw (← e, eq-eqb s 0 z) refl
@@ -173,7 +169,7 @@ module _ (t : Tag) (c random : List ℕ) (right : Bool) (e : right ≡ formRight
   orderOf = orderStatus (byteAt c 1) (byteAt c 2) (byteAt c 3) (t .pending .on)
 
   abbrev onOrder : Bool → Answer
-  onOrder b = pick b (commanded t (byteAt c 1) (partOf c) random) (refusal t orderOf)
+  onOrder b = pick b (commanded t (byteAt c 1) (commandData c) random) (refusal t orderOf)
 
   abbrev onForm : Bool → Answer
   onForm b = pick b (onOrder (eqb orderOf 0)) (refusal t 0x917E)
@@ -190,7 +186,7 @@ module _ (t : Tag) (c random : List ℕ) (right : Bool) (e : right ≡ formRight
     unfolding wrapped
     wrapped-order n = ap (refusal t) order ∙ ap onOrder (sym (ne-eqb orderOf 0 (λ q. n (order ∙ q)))) ∙ ap onForm (sym h ∙ e)
 
-    pub wrapped-command : s ≡ 0 → (x : List ℕ) → x ≡ partOf c → commanded t ins x random ≡ wrapped t c random
+    pub wrapped-command : s ≡ 0 → (x : List ℕ) → x ≡ commandData c → commanded t ins x random ≡ wrapped t c random
     unfolding wrapped
     wrapped-command z x ex =
         ap₂ (λ i p. commanded t i p random) ei ex ∙ ap onOrder (sym (eq-eqb orderOf 0 (sym order ∙ z))) ∙ ap onForm (sym h ∙ e)

@@ -6,8 +6,6 @@ use lib.Dec.{eqb, ltb}
 use lib.ListN.{length}
 use Rattle.base.specs.Decide.{pick, or}
 use Rattle.base.specs.Bytes.{byteAt, over}
-use Rattle.state.specs.declared.Made.{Made}
-use Rattle.state.specs.declared.Made.the-variants.{Fresh, WrongUid}
 use Rattle.state.specs.declared.Tag.{Tag}
 use Rattle.state.specs.Sound.{soundTag}
 use Rattle.answer.specs.Answer.{Answer, refusal}
@@ -45,11 +43,6 @@ refusalNumber Unsound = 3
 -- refusals 1 to 3, in this order, by their numbers
 unfoldable pub refusalOf : Tag → List ℕ → List ℕ → ℕ
 refusalOf t random room = pick (ltb (length room) 258) 1 (pick (eqb (length random) 20) (pick (soundTag t) 0 3) 2)
-
--- 01's number of a fresh tag's answer: refusal 4
-unfoldable pub madeNumber : Made → ℕ
-madeNumber Fresh = 0
-madeNumber WrongUid = 4
 
 -- refused: length 0 and the state as it was
 unfoldable pub unanswered : Outcome → Tag → Called

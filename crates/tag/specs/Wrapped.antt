@@ -15,10 +15,10 @@ use Rattle.state.specs.declared.Access.the-variants.{In, Never, Denied}
 use Rattle.state.specs.declared.Tag.{Tag}
 use Rattle.state.specs.State.{readingIn}
 use Rattle.state.specs.Access.{accessFor, accessStatus}
-use Rattle.answer.specs.Answer.{Answer, refusal, sessionOf}
+use Rattle.answer.specs.Answer.{Answer, refusal, usedUp, sessionOf}
 use Rattle.auth.specs.Parts.{keyStatus, partOneFirst, partOneNext, partTwoAnswer}
 use Rattle.keyring.specs.Keyring.{changedKey, keyVersion}
-use Rattle.strings.specs.Strings.{cardUid, fileSettings, changedSettings, fileCounters}
+use Rattle.details.specs.Details.{cardUid, fileSettings, changedSettings, fileCounters}
 use Rattle.contents.specs.Contents.{readData, writtenData}
 
 -- a number is one of a list
@@ -34,8 +34,8 @@ formRight c =
     (or (eqb (length c) 5) (and (leb 1 (byteAt c 4)) (eqb (length c) (6 + byteAt c 4)))))
 
 -- its data
-unfoldable pub partOf : List ℕ → List ℕ
-partOf c = take (length c - 6) (drop 5 c)
+unfoldable pub commandData : List ℕ → List ℕ
+commandData c = take (length c - 6) (drop 5 c)
 
 -- the commands, wrapped
 abbrev pub wrappedCommands : List ℕ
@@ -93,19 +93,19 @@ onOpening t ins x m random wrongMac = refusal t (openedStatus WrongMac)
 onOpening t ins x m random wrongPadding = refusal t (openedStatus WrongPadding)
 
 -- step 7: in session with CmdCtr 65,535 91AE
-unfoldable pub inMode : Tag → ℕ → List ℕ → Mode → List ℕ → Answer
-inMode t ins x m random =
-    pick (and (t .live .on) (eqb (t .live .counter) 65535)) (refusal t 0x91AE)
+unfoldable pub fromStep7 : Tag → ℕ → List ℕ → Mode → List ℕ → Answer
+fromStep7 t ins x m random =
+    pick (usedUp (t .live .on) (t .live .counter)) (refusal t 0x91AE)
     (onOpening t ins x m random (openingOf t ins x m))
 
 -- step 6: access 919D, else 91AE
 abbrev pub onAccess : Tag → ℕ → List ℕ → List ℕ → Access → Answer
-onAccess t ins x random (In m) = inMode t ins x m random
+onAccess t ins x random (In m) = fromStep7 t ins x m random
 onAccess t ins x random Never = refusal t (accessStatus Never)
 onAccess t ins x random Denied = refusal t (accessStatus Denied)
 
-unfoldable pub talk : Tag → ℕ → List ℕ → List ℕ → Answer
-talk t ins x random =
+unfoldable pub fromStep5 : Tag → ℕ → List ℕ → List ℕ → Answer
+fromStep5 t ins x random =
     pick (eqb (frontStatus ins x (t .place .application)) 0)
     (onAccess t ins x random (accessFor ins (t .live) (readingIn (t .files) (byteAt x 0) .settings .head)))
     (refusal t (frontStatus ins x (t .place .application)))
@@ -114,9 +114,9 @@ unfoldable pub commanded : Tag → ℕ → List ℕ → List ℕ → Answer
 commanded t ins x random =
     pick (eqb ins 0x71) (partOneFirst t x random)
     (pick (eqb ins 0x77) (partOneNext t x random)
-    (pick (eqb ins 0xAF) (partTwoAnswer t x random) (talk t ins x random)))
+    (pick (eqb ins 0xAF) (partTwoAnswer t x random) (fromStep5 t ins x random)))
 
 unfoldable pub wrapped : Tag → List ℕ → List ℕ → Answer
 wrapped t c random =
     let s = orderStatus (byteAt c 1) (byteAt c 2) (byteAt c 3) (t .pending .on) in
-    pick (formRight c) (pick (eqb s 0) (commanded t (byteAt c 1) (partOf c) random) (refusal t s)) (refusal t 0x917E)
+    pick (formRight c) (pick (eqb s 0) (commanded t (byteAt c 1) (commandData c) random) (refusal t s)) (refusal t 0x917E)

@@ -1,12 +1,11 @@
 // Wrapped commands (CLA 90): 01's steps 2 to 9.
 ghost use mathlib.Core.Path.{_≡_};
 ghost use Prim.Native.Nat.{_≤_};
-ghost use lib.Dec.{eqb};
 ghost use lib.ListN.{length, take};
-ghost use Rattle.base.specs.Decide.{and};
 ghost use Rattle.messaging.specs.Command.{openedStatus};
 ghost use Rattle.answer.specs.Answer.{Gives};
-ghost use Rattle.tag.specs.Wrapped.{oneOf, formRight, wrappedCommands, headerLength, hasData, fileStatus, byteStatus, frontStatus, orderStatus, own, openingOf, onOpening, inMode, talk, commanded, wrapped};
+ghost use Rattle.tag.specs.Wrapped.{oneOf, formRight, wrappedCommands, headerLength, hasData, fileStatus, byteStatus, frontStatus};
+ghost use Rattle.tag.specs.Wrapped.{orderStatus, own, openingOf, onOpening, fromStep7, fromStep5, commanded, wrapped};
 use answer::Done;
 use messaging::Mode;
 use messaging::Opened;
@@ -113,10 +112,10 @@ fn own(tag: Tag, ins: u8, x: &[u8], p: &[u8], m: Mode, random: [u8; 20]) -> Done
     match ins {
         0xC4 => keyring::change_key(tag, b, p),
         0x64 => keyring::key_version(tag, b, m),
-        0x51 => strings::card_uid(tag),
-        0xF5 => strings::file_settings(tag, b, m),
-        0x5F => strings::change_settings(tag, b, p, m),
-        0xF6 => strings::file_counters(tag, m),
+        0x51 => details::card_uid(tag),
+        0xF5 => details::file_settings(tag, b, m),
+        0x5F => details::change_settings(tag, b, p, m),
+        0xF6 => details::file_counters(tag, m),
         0x8D => contents::write_data(tag, b, x, p, m),
         _ => contents::read_data(tag, b, x, m, random),
     }
@@ -166,31 +165,21 @@ fn on_message(tag: Tag, ins: u8, x: &[u8], m: Mode, random: [u8; 20]) -> Done
     }
 }
 
-// Whether a session's CmdCtr is full.
-fn counter_full(on: bool, counter: u16) -> bool
-    ensures { λ r. ⌜ r ≡ and on (eqb counter 65535) ⌝ }
-{
-    if on {
-        return counter == 65535;
-    }
-    false
-}
-
 // Steps 7 to 9, in the mode that access gave.
-fn in_mode(tag: Tag, ins: u8, x: &[u8], m: Mode, random: [u8; 20]) -> Done
+fn from_step_7(tag: Tag, ins: u8, x: &[u8], m: Mode, random: [u8; 20]) -> Done
     requires { ⌜ length (now x) ≤ 255 ⌝ }
-    ensures { λ r. ⌜ Gives (inMode tag ins (now (x .entry)) m random) r ⌝ }
+    ensures { λ r. ⌜ Gives (fromStep7 tag ins (now (x .entry)) m random) r ⌝ }
 {
-    if counter_full(tag.live.on, tag.live.counter) {
+    if answer::used_up(tag.live.on, tag.live.counter) {
         return answer::refuse(tag, 0x91AE);
     }
     on_message(tag, ins, x, m, random)
 }
 
 // Steps 5 to 9.
-fn talk(tag: Tag, ins: u8, x: &[u8], random: [u8; 20]) -> Done
+fn from_step_5(tag: Tag, ins: u8, x: &[u8], random: [u8; 20]) -> Done
     requires { ⌜ length (now x) ≤ 255 ⌝ }
-    ensures { λ r. ⌜ Gives (talk tag ins (now (x .entry)) random) r ⌝ }
+    ensures { λ r. ⌜ Gives (fromStep5 tag ins (now (x .entry)) random) r ⌝ }
 {
     let s = front_status(ins, x, tag.place.application);
     if s != 0 {
@@ -203,7 +192,7 @@ fn talk(tag: Tag, ins: u8, x: &[u8], random: [u8; 20]) -> Done
     match a {
         Access::Never => answer::refuse(tag, 0x919D),
         Access::Denied => answer::refuse(tag, 0x91AE),
-        Access::In(m) => in_mode(tag, ins, x, m, random),
+        Access::In(m) => from_step_7(tag, ins, x, m, random),
     }
 }
 
@@ -215,7 +204,7 @@ fn commanded(tag: Tag, ins: u8, x: &[u8], random: [u8; 20]) -> Done
         0x71 => auth::first(tag, x, random),
         0x77 => auth::next(tag, x, random),
         0xAF => auth::second(tag, x, random),
-        _ => talk(tag, ins, x, random),
+        _ => from_step_5(tag, ins, x, random),
     }
 }
 

@@ -48,17 +48,34 @@ returns c = let a = c .before .before .before .before .before .before .before .b
     let e : length (c .before .before .before .before .before .before .session-of .result .enc) ≡ 16 = search needs in
     let x : (i : ℕ) → Fits w8 (byteAt (c .before .before .before .before .before .before .session-of .result .enc) i) = λ i. search needs in
     let y : (i : ℕ) → Fits w8 (byteAt (a .bytes) i) = λ i. search needs in
-    accepts-reply (a .tag) (a .m) (c .before .before .before .before .before .before .session-of .result) (a .bytes) _ (a .n) (c .before .before .before .before .before .before .before .smaller .result) (c .before .before .before .before .close .result) l (c .before .before .before .before .before .before .before .smaller .ensures) (c .before .before .before .before .close .ensures)
-    (c .before .before .before .before .before .before .before .before .after .result) (c .before .c .given .0 .0) (c .before .c .given .1) e (λ i. omega (arith, x i)) (λ i. omega (arith, y i)) (c .before .before .before .before .before .before .before .before .after .ensures) (c .before .before .before .before .before .before .session-of .ensures)
+    accepts-reply (a .tag) (a .m) (c .before .before .before .before .before .before .session-of .result) (a .bytes) _ (a .n)
+    (c .before .before .before .before .before .before .before .smaller .result)
+    (c .before .before .before .before .close .result) l
+    (c .before .before .before .before .before .before .before .smaller .ensures)
+    (c .before .before .before .before .close .ensures)
+    (c .before .before .before .before .before .before .before .before .after .result) (c .before .c .given .0 .0)
+    (c .before .c .given .1) e (λ i. omega (arith, x i)) (λ i. omega (arith, y i))
+    (c .before .before .before .before .before .before .before .before .after .ensures)
+    (c .before .before .before .before .before .before .session-of .ensures)
 
 returns-2 : tie.Need-returns-2
 returns-2 c = let a = c .before .before .before .before .before .before .before .before .before .args in let l : length (a .bytes) ≡ 258 = search needs in
-    subst (λ x. Gives x (c .refuse .result)) (sym (accepts-over (a .tag) (a .m) (c .before .before .before .before .before .before .session-of .result) (a .bytes) _ (a .n) (c .before .before .before .before .before .before .before .smaller .result) (c .before .before .before .before .close .result) l (c .before .before .before .before .before .before .before .smaller .ensures) (c .before .before .before .before .close .ensures) (c .before .enum-told .given .1)))
+    subst (λ x. Gives x (c .refuse .result)) (sym
+    (accepts-over (a .tag) (a .m) (c .before .before .before .before .before .before .session-of .result) (a .bytes) _ (a .n)
+    (c .before .before .before .before .before .before .before .smaller .result)
+    (c .before .before .before .before .close .result) l
+    (c .before .before .before .before .before .before .before .smaller .ensures)
+    (c .before .before .before .before .close .ensures) (c .before .enum-told .given .1)))
     (c .refuse .ensures)
 
 returns-3 : tie.Need-returns-3
 returns-3 c = let a = c .before .before .before .before .before .before .before .before .before .args in let l : length (a .bytes) ≡ 258 = search needs in
-    subst (λ x. Gives x (c .refuse2 .result)) (sym (accepts-small (a .tag) (a .m) (c .before .before .before .before .before .before .session-of .result) (a .bytes) _ (a .n) (c .before .before .before .before .before .before .before .smaller .result) (c .before .before .before .before .close .result) l (c .before .before .before .before .before .before .before .smaller .ensures) (c .before .before .before .before .close .ensures) (c .before .enum-told2 .given .1)))
+    subst (λ x. Gives x (c .refuse2 .result)) (sym
+    (accepts-small (a .tag) (a .m) (c .before .before .before .before .before .before .session-of .result) (a .bytes) _
+    (a .n) (c .before .before .before .before .before .before .before .smaller .result)
+    (c .before .before .before .before .close .result) l
+    (c .before .before .before .before .before .before .before .smaller .ensures)
+    (c .before .before .before .before .close .ensures) (c .before .enum-told2 .given .1)))
     (c .refuse2 .ensures)
 
 pub accept-spec : {M : Type 1} → statement M

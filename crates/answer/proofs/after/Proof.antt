@@ -1,4 +1,5 @@
 -- `answer::after` meets its contract.
+use Rattle.state.specs.State.{talking}
 use Rattle.answer.specs.Answer.{afterwards}
 use borrow.Author.Needs.{needs}
 use Rattle.answer.proofs.after.Statement.{statement}
@@ -11,7 +12,7 @@ quiet-requires : tie.Need-quiet-requires
 quiet-requires c κs = search needs
 
 returns : tie.Need-returns
-unfolding afterwards
+unfolding afterwards talking
 returns c = simp (c .before .raise .ensures, c .quiet .ensures)
 
 pub after-spec : {M : Type 1} → statement M

@@ -12,8 +12,8 @@ part-one-requires c κs = search needs
 no-live-requires : tie.Need-no-live-requires
 no-live-requires c κs = search needs
 
-talk-requires : tie.Need-talk-requires
-talk-requires c κs = search needs
+talking-requires : tie.Need-talking-requires
+talking-requires c κs = search needs
 
 slice-aggregate-reply : tie.Need-slice-aggregate-reply
 slice-aggregate-reply c = search needs
@@ -23,7 +23,13 @@ reply-requires c κs = search needs
 
 returns : tie.Need-returns
 unfolding begun
-returns c = rw (← c .before .before .before .before .before .key-of .ensures, ← c .before .before .before .before .part-one .ensures, ← c .before .before .before .no-live .ensures, ← c .before .before .talk .ensures) (c .reply .ensures)
+returns c =
+    rw (
+      ← c .before .before .before .before .before .key-of .ensures,
+      ← c .before .before .before .before .part-one .ensures,
+      ← c .before .before .before .no-live .ensures,
+      ← c .before .before .talking .ensures,
+    ) (c .reply .ensures)
 
 pub begin-spec : {M : Type 1} → statement M
 begin-spec =
@@ -32,7 +38,7 @@ begin-spec =
     key-of-requires
     part-one-requires
     no-live-requires
-    talk-requires
+    talking-requires
     slice-aggregate-reply
     reply-requires
     returns)

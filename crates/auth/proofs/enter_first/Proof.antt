@@ -15,8 +15,8 @@ session-requires c κs = search needs
 no-pending-requires : tie.Need-no-pending-requires
 no-pending-requires c κs = search needs
 
-talk-requires : tie.Need-talk-requires
-talk-requires c κs = search needs
+talking-requires : tie.Need-talking-requires
+talking-requires c κs = search needs
 
 slice-aggregate-reply : tie.Need-slice-aggregate-reply
 slice-aggregate-reply c = search needs
@@ -26,7 +26,15 @@ reply-requires c κs = search needs
 
 returns : tie.Need-returns
 unfolding enteredFirst
-returns c = rw (← c .before .before .before .before .before .before .ti-of .ensures, ← c .before .before .before .before .session .ensures, ← c .before .before .before .before .before .first-reply .ensures, ← c .before .before .before .no-pending .ensures, ← c .before .before .talk .ensures) (c .reply .ensures)
+returns c =
+    let c6 = c .before .before .before .before .before .before in
+    rw (
+      ← c6 .ti-of .ensures,
+      ← c .before .before .before .before .session .ensures,
+      ← c .before .before .before .before .before .first-reply .ensures,
+      ← c .before .before .before .no-pending .ensures,
+      ← c .before .before .talking .ensures,
+    ) (c .reply .ensures)
 
 pub enter-first-spec : {M : Type 1} → statement M
 enter-first-spec =
@@ -36,7 +44,7 @@ enter-first-spec =
     first-reply-requires
     session-requires
     no-pending-requires
-    talk-requires
+    talking-requires
     slice-aggregate-reply
     reply-requires
     returns)

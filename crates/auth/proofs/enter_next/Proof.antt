@@ -12,8 +12,8 @@ session-requires c κs = search needs
 no-pending-requires : tie.Need-no-pending-requires
 no-pending-requires c κs = search needs
 
-talk-requires : tie.Need-talk-requires
-talk-requires c κs = search needs
+talking-requires : tie.Need-talking-requires
+talking-requires c κs = search needs
 
 slice-aggregate-reply : tie.Need-slice-aggregate-reply
 slice-aggregate-reply c = search needs
@@ -23,7 +23,13 @@ reply-requires c κs = search needs
 
 returns : tie.Need-returns
 unfolding enteredNext
-returns c = rw (← c .before .before .before .before .session .ensures, ← c .before .before .before .before .before .next-reply .ensures, ← c .before .before .before .no-pending .ensures, ← c .before .before .talk .ensures) (c .reply .ensures)
+returns c =
+    rw (
+      ← c .before .before .before .before .session .ensures,
+      ← c .before .before .before .before .before .next-reply .ensures,
+      ← c .before .before .before .no-pending .ensures,
+      ← c .before .before .talking .ensures,
+    ) (c .reply .ensures)
 
 pub enter-next-spec : {M : Type 1} → statement M
 enter-next-spec =
@@ -32,7 +38,7 @@ enter-next-spec =
     next-reply-requires
     session-requires
     no-pending-requires
-    talk-requires
+    talking-requires
     slice-aggregate-reply
     reply-requires
     returns)

@@ -1,5 +1,6 @@
 use Rattle.auth.specs.Parts.{enteredFirst, enteredNext, entered}
-use Rattle.auth.proofs.Replies.{gives-as, picked, passed-over}
+use Rattle.answer.proofs.Equal.{gives-as}
+use Rattle.auth.proofs.Replies.{picked, passed-over}
 use borrow.Author.Needs.{needs}
 use Rattle.auth.proofs.enter_right.Statement.{statement}
 use Rattle.auth.proofs.enter_right.Tie as tie

@@ -16,14 +16,24 @@ rnd-b-requires : tie.Need-rnd-b-requires
 rnd-b-requires c κs = search needs
 
 cap-of-requires : tie.Need-cap-of-requires
-cap-of-requires c κs = first-lengths (c .before .before .before .before .before .args .x .now) (c .before .before .before .before .before .args .tag .place .application) (sym (c .before .before .before .first-status .ensures) ∙ c .before .before .if1 .taken)
+cap-of-requires c κs =
+    let c5 = c .before .before .before .before .before in
+    first-lengths (c5 .args .x .now) (c5 .args .tag .place .application)
+    (sym (c .before .before .before .first-status .ensures) ∙ c .before .before .if1 .taken)
 
 begin-requires : tie.Need-begin-requires
 begin-requires c κs = search needs
 
 returns : tie.Need-returns
 unfolding partOneFirst pendingFirst
-returns c = rw (← c .before .before .before .before .before .first-status .ensures, eq-eqb _ _ (c .before .before .before .before .if1 .taken), ← c .before .before .before .at .ensures, ← c .before .before .rnd-b .ensures, ← c .before .cap-of .ensures) (c .begin .ensures)
+returns c =
+    rw (
+      ← c .before .before .before .before .before .first-status .ensures,
+      eq-eqb _ _ (c .before .before .before .before .if1 .taken),
+      ← c .before .before .before .at .ensures,
+      ← c .before .before .rnd-b .ensures,
+      ← c .before .cap-of .ensures,
+    ) (c .begin .ensures)
 
 refuse-requires : tie.Need-refuse-requires
 refuse-requires c κs = search needs

@@ -27,7 +27,13 @@ first-values-requires c κs = search needs
 
 returns-3 : tie.Need-returns-3
 unfolding firstStatus
-returns-3 c = rw (le-ltb _ _ (c .before .before .before .before .if1 .left), ← c .before .before .before .at .ensures, le-ltb _ _ (c .before .before .if2 .left), eq-eqb _ _ (c .before .if3 .taken)) (c .first-values .ensures)
+returns-3 c =
+    rw (
+      le-ltb _ _ (c .before .before .before .before .if1 .left),
+      ← c .before .before .before .at .ensures,
+      le-ltb _ _ (c .before .before .if2 .left),
+      eq-eqb _ _ (c .before .if3 .taken),
+    ) (c .first-values .ensures)
 
 returns-4 : tie.Need-returns-4
 unfolding firstStatus

@@ -20,15 +20,38 @@ at-requires-2 c κs = search needs
 
 returns-2 : tie.Need-returns-2
 unfolding valuesStatus
-returns-2 c = rw (← c .before .before .before .before .at .ensures, ← c .before .before .before .key-status .ensures, eq-eqb _ _ (c .before .before .if1 .left), ← c .before .at2 .ensures, eq-eqb _ _ (c .if2 .taken)) refl
+returns-2 c =
+    rw (
+      ← c .before .before .before .before .at .ensures,
+      ← c .before .before .before .key-status .ensures,
+      eq-eqb _ _ (c .before .before .if1 .left),
+      ← c .before .at2 .ensures,
+      eq-eqb _ _ (c .if2 .taken),
+    ) refl
 
 returns-3 : tie.Need-returns-3
 unfolding valuesStatus
-returns-3 c = rw (← c .before .before .before .before .before .at .ensures, ← c .before .before .before .before .key-status .ensures, eq-eqb _ _ (c .before .before .before .if1 .left), ← c .before .before .at2 .ensures, ne-eqb _ _ (c .before .if2 .left), c .if3 .taken) refl
+returns-3 c =
+    rw (
+      ← c .before .before .before .before .before .at .ensures,
+      ← c .before .before .before .before .key-status .ensures,
+      eq-eqb _ _ (c .before .before .before .if1 .left),
+      ← c .before .before .at2 .ensures,
+      ne-eqb _ _ (c .before .if2 .left),
+      c .if3 .taken,
+    ) refl
 
 returns-4 : tie.Need-returns-4
 unfolding valuesStatus
-returns-4 c = rw (← c .before .before .before .before .before .at .ensures, ← c .before .before .before .before .key-status .ensures, eq-eqb _ _ (c .before .before .before .if1 .left), ← c .before .before .at2 .ensures, ne-eqb _ _ (c .before .if2 .left), c .if3 .left) refl
+returns-4 c =
+    rw (
+      ← c .before .before .before .before .before .at .ensures,
+      ← c .before .before .before .before .key-status .ensures,
+      eq-eqb _ _ (c .before .before .before .if1 .left),
+      ← c .before .before .at2 .ensures,
+      ne-eqb _ _ (c .before .if2 .left),
+      c .if3 .left,
+    ) refl
 
 pub first-values-spec : {M : Type 1} → statement M
 first-values-spec =

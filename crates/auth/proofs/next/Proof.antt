@@ -18,7 +18,13 @@ begin-requires c κs = search needs
 
 returns : tie.Need-returns
 unfolding partOneNext pendingNext
-returns c = rw (← c .before .before .before .before .before .next-status .ensures, eq-eqb _ _ (c .before .before .before .before .if1 .taken), ← c .before .before .at .ensures, ← c .before .rnd-b .ensures) (c .begin .ensures)
+returns c =
+    rw (
+      ← c .before .before .before .before .before .next-status .ensures,
+      eq-eqb _ _ (c .before .before .before .before .if1 .taken),
+      ← c .before .before .at .ensures,
+      ← c .before .rnd-b .ensures,
+    ) (c .begin .ensures)
 
 refuse-requires : tie.Need-refuse-requires
 refuse-requires c κs = search needs

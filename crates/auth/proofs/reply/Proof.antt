@@ -1,6 +1,7 @@
 use mathlib.Core.Path.{ap}
 use Rattle.answer.specs.Answer.{given}
-use Rattle.auth.proofs.Replies.{gives-as, given-whole}
+use Rattle.answer.proofs.Equal.{gives-as}
+use Rattle.auth.proofs.Replies.{given-whole}
 use borrow.Author.Needs.{needs}
 use Rattle.auth.proofs.reply.Statement.{statement}
 use Rattle.auth.proofs.reply.Tie as tie

@@ -1,4 +1,5 @@
-use Rattle.auth.proofs.Replies.{gives-as, two-right, two-short, two-wrong}
+use Rattle.answer.proofs.Equal.{gives-as}
+use Rattle.auth.proofs.Replies.{two-right, two-short, two-wrong}
 use borrow.Author.Needs.{needs}
 use Rattle.auth.proofs.second.Statement.{statement}
 use Rattle.auth.proofs.second.Tie as tie

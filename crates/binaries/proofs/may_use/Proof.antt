@@ -18,7 +18,12 @@ may-requires c κs = search needs
 
 returns : tie.Need-returns
 unfolding mayUse
-returns c = let a = c .before .before .before .before .before .before .args in c .may .ensures ∙ ap (mayPass (a .tag .live)) (c .before .access-for .ensures ∙ ap (accessFor (a .ins) (a .tag .live)) (c .before .before .head-of .ensures ∙ head-there (a .tag .files) (a .tag .place .file)))
+returns c =
+    let c6 = c .before .before .before .before .before .before in
+    let a = c6 .args in
+    c .may .ensures ∙ ap (mayPass (a .tag .live))
+    (c .before .access-for .ensures ∙ ap (accessFor (a .ins) (a .tag .live))
+    (c .before .before .head-of .ensures ∙ head-there (a .tag .files) (a .tag .place .file)))
 
 pub may-use-spec : {M : Type 1} → statement M
 may-use-spec = tie.close (tie.spec head-of-requires access-for-requires may-requires returns)

@@ -30,7 +30,13 @@ refuse-requires-2 c κs = search needs
 
 returns-2 : tie.Need-returns-2
 unfolding readRange
-returns-2 c = let a = c .before .before .before .before .args in rw (← c .before .before .before .file-size .ensures, lt-leb (c .before .before .before .file-size .result) (a .at) (c .before .before .if1 .left), lt-ltb (c .before .before .before .file-size .result - a .at) (a .le) (c .before .if2 .taken)) (c .refuse2 .ensures)
+returns-2 c =
+    let a = c .before .before .before .before .args in
+    rw (
+      ← c .before .before .before .file-size .ensures,
+      lt-leb (c .before .before .before .file-size .result) (a .at) (c .before .before .if1 .left),
+      lt-ltb (c .before .before .before .file-size .result - a .at) (a .le) (c .before .if2 .taken),
+    ) (c .refuse2 .ensures)
 
 reading-of-requires : tie.Need-reading-of-requires
 reading-of-requires c κs = search needs
@@ -38,12 +44,22 @@ reading-of-requires c κs = search needs
 all-or-requires : tie.Need-all-or-requires
 all-or-requires c κs = search needs
 
-read-part-requires : tie.Need-read-part-requires
-read-part-requires c κs = search needs
+iso-part-requires : tie.Need-iso-part-requires
+iso-part-requires c κs = search needs
 
 returns-3 : tie.Need-returns-3
 unfolding readRange
-returns-3 c = let a = c .before .before .before .before .before .before .args in rw (← c .before .before .before .before .before .file-size .ensures, lt-leb (c .before .before .before .before .before .file-size .result) (a .at) (c .before .before .before .before .if1 .left), le-ltb (c .before .before .before .before .before .file-size .result - a .at) (a .le) (c .before .before .before .if2 .left), ← c .before .before .reading-of .ensures, ← c .before .all-or .ensures) (c .read-part .ensures)
+returns-3 c =
+    let c5 = c .before .before .before .before .before in
+    let c6 = c5 .before in
+    let a = c6 .args in
+    rw (
+      ← c5 .file-size .ensures,
+      lt-leb (c5 .file-size .result) (a .at) (c .before .before .before .before .if1 .left),
+      le-ltb (c5 .file-size .result - a .at) (a .le) (c .before .before .before .if2 .left),
+      ← c .before .before .reading-of .ensures,
+      ← c .before .all-or .ensures,
+    ) (c .iso-part .ensures)
 
 pub read-range-spec : {M : Type 1} → statement M
 read-range-spec =
@@ -59,5 +75,5 @@ read-range-spec =
     returns-2
     reading-of-requires
     all-or-requires
-    read-part-requires
+    iso-part-requires
     returns-3)

@@ -3,7 +3,7 @@ use Prim.Native.Nat.{_-_}
 use lib.ListN.{length}
 use borrow.Author.Tests.{lt-ltb, le-ltb, le-leb, lt-leb}
 use borrow.Author.Needs.{needs}
-use Rattle.answer.specs.Filing.{filed}
+use Rattle.state.specs.State.{filed}
 use Rattle.binaries.specs.Binaries.{updateRange}
 use Rattle.binaries.proofs.update_range.Statement.{statement}
 use Rattle.binaries.proofs.update_range.Tie as tie
@@ -16,7 +16,10 @@ refuse-requires c κs = search needs
 
 returns : tie.Need-returns
 unfolding updateRange
-returns c = let a = c .before .before .before .before .args in rw (← c .before .before .file-size .ensures, le-leb (c .before .before .file-size .result) (a .at) (c .before .if1 .taken)) (c .refuse .ensures)
+returns c =
+    let a = c .before .before .before .before .args in
+    rw (← c .before .before .file-size .ensures, le-leb (c .before .before .file-size .result) (a .at) (c .before .if1 .taken))
+    (c .refuse .ensures)
 
 sub-if2 : tie.Need-sub-if2
 sub-if2 c = search needs
@@ -26,7 +29,14 @@ refuse-requires-2 c κs = search needs
 
 returns-2 : tie.Need-returns-2
 unfolding updateRange
-returns-2 c = let a = c .before .before .before .before .before .args in rw (← c .before .before .before .file-size .ensures, lt-leb (c .before .before .before .file-size .result) (a .at) (c .before .before .if1 .left), lt-ltb (c .before .before .before .file-size .result - a .at) (length (a .d .now)) (c .before .if2 .taken)) (c .refuse2 .ensures)
+returns-2 c =
+    let a = c .before .before .before .before .before .args in
+    rw (
+      ← c .before .before .before .file-size .ensures,
+      lt-leb (c .before .before .before .file-size .result) (a .at) (c .before .before .if1 .left),
+      lt-ltb (c .before .before .before .file-size .result - a .at) (length (a .d .now)) (c .before .if2 .taken),
+    )
+    (c .refuse2 .ensures)
 
 with-bytes-requires : tie.Need-with-bytes-requires
 with-bytes-requires c κs = search needs
@@ -39,7 +49,17 @@ give-requires c κs = search needs
 
 returns-3 : tie.Need-returns-3
 unfolding updateRange filed
-returns-3 c = let a = c .before .before .before .before .before .before .before .args in rw (← c .before .before .before .before .before .file-size .ensures, lt-leb (c .before .before .before .before .before .file-size .result) (a .at) (c .before .before .before .before .if1 .left), le-ltb (c .before .before .before .before .before .file-size .result - a .at) (length (a .d .now)) (c .before .before .before .if2 .left), ← c .before .before .with-bytes .ensures, ← c .before .after .ensures) (c .give .ensures)
+returns-3 c =
+    let c5 = c .before .before .before .before .before in
+    let c7 = c5 .before .before in
+    let a = c7 .args in
+    rw (
+      ← c5 .file-size .ensures,
+      lt-leb (c5 .file-size .result) (a .at) (c .before .before .before .before .if1 .left),
+      le-ltb (c5 .file-size .result - a .at) (length (a .d .now)) (c .before .before .before .if2 .left),
+      ← c .before .before .with-bytes .ensures,
+      ← c .before .after .ensures,
+    ) (c .give .ensures)
 
 pub update-range-spec : {M : Type 1} → statement M
 update-range-spec =

@@ -23,19 +23,38 @@ reading-of-requires c κs = search needs
 asked-for-requires : tie.Need-asked-for-requires
 asked-for-requires c κs = search needs
 
-read-part-requires : tie.Need-read-part-requires
-read-part-requires c κs = search needs
+wrapped-part-requires : tie.Need-wrapped-part-requires
+wrapped-part-requires c κs = search needs
 
 returns : tie.Need-returns
 unfolding readData
-returns c = rw (← c .before .before .before .before .before .before .before .three-at .ensures, ← c .before .before .before .before .before .before .three-at2 .ensures, ← c .before .before .before .before .before .file-size .ensures, ← c .before .before .before .before .range-status .ensures, eq-eqb (c .before .before .before .before .range-status .result) 0 (c .before .before .before .if1 .taken), ← c .before .asked-for .ensures, ← c .before .before .reading-of .ensures) (c .read-part .ensures)
+returns c =
+    let c4 = c .before .before .before .before in
+    let c6 = c4 .before .before in
+    let c7 = c6 .before in
+    rw (
+      ← c7 .three-at .ensures,
+      ← c6 .three-at2 .ensures,
+      ← c .before .before .before .before .before .file-size .ensures,
+      ← c4 .range-status .ensures,
+      eq-eqb (c4 .range-status .result) 0 (c .before .before .before .if1 .taken),
+      ← c .before .asked-for .ensures,
+      ← c .before .before .reading-of .ensures,
+    ) (c .wrapped-part .ensures)
 
 refuse-requires : tie.Need-refuse-requires
 refuse-requires c κs = search needs
 
 returns-2 : tie.Need-returns-2
 unfolding readData
-returns-2 c = rw (← c .before .before .before .before .before .three-at .ensures, ← c .before .before .before .before .three-at2 .ensures, ← c .before .before .before .file-size .ensures, ← c .before .before .range-status .ensures, ne-eqb (c .before .before .range-status .result) 0 (c .before .if1 .left)) (c .refuse .ensures)
+returns-2 c =
+    rw (
+      ← c .before .before .before .before .before .three-at .ensures,
+      ← c .before .before .before .before .three-at2 .ensures,
+      ← c .before .before .before .file-size .ensures,
+      ← c .before .before .range-status .ensures,
+      ne-eqb (c .before .before .range-status .result) 0 (c .before .if1 .left),
+    ) (c .refuse .ensures)
 
 pub read-data-spec : {M : Type 1} → statement M
 read-data-spec =
@@ -47,7 +66,7 @@ read-data-spec =
     range-status-requires
     reading-of-requires
     asked-for-requires
-    read-part-requires
+    wrapped-part-requires
     returns
     refuse-requires
     returns-2)

@@ -45,7 +45,13 @@ add-result-2 c = search needs
 
 returns : tie.Need-returns
 unfolding three number
-returns c = rw (c .before .before .before .before .wide .ensures .0 ∙ c .before .before .before .before .before .at .ensures, c .before .before .wide2 .ensures .0 ∙ c .before .before .before .at2 .ensures, c .wide3 .ensures .0 ∙ c .before .at3 .ensures) (omega arith)
+returns c =
+    rw (
+      c .before .before .before .before .wide .ensures .0 ∙ c .before .before .before .before .before .at .ensures,
+      c .before .before .wide2 .ensures .0 ∙ c .before .before .before .at2 .ensures,
+      c .wide3 .ensures .0
+          ∙ c .before .at3 .ensures,
+    ) (omega arith)
 
 pub three-at-spec : {M : Type 1} → statement M
 three-at-spec =

@@ -1,7 +1,7 @@
 -- `contents::write_data` meets its contract.
 use borrow.Author.Tests.{eq-eqb, ne-eqb}
 use borrow.Author.Needs.{needs}
-use Rattle.answer.specs.Filing.{filed}
+use Rattle.state.specs.State.{filed}
 use Rattle.contents.specs.Contents.{writtenData}
 use Rattle.contents.proofs.write_data.Statement.{statement}
 use Rattle.contents.proofs.write_data.Tie as tie
@@ -26,14 +26,30 @@ accept-requires c κs = search needs
 
 returns : tie.Need-returns
 unfolding writtenData filed
-returns c = rw (← c .before .before .before .before .before .before .three-at .ensures, ← c .before .before .before .before .before .three-at2 .ensures, ← c .before .before .before .before .file-size .ensures, ← c .before .before .before .write-status .ensures, eq-eqb (c .before .before .before .write-status .result) 0 (c .before .before .if1 .taken), ← c .before .with-bytes .ensures) (c .accept .ensures)
+returns c =
+    let c6 = c .before .before .before .before .before .before in
+    rw (
+      ← c6 .three-at .ensures,
+      ← c .before .before .before .before .before .three-at2 .ensures,
+      ← c .before .before .before .before .file-size .ensures,
+      ← c .before .before .before .write-status .ensures,
+      eq-eqb (c .before .before .before .write-status .result) 0 (c .before .before .if1 .taken),
+      ← c .before .with-bytes .ensures,
+    ) (c .accept .ensures)
 
 refuse-requires : tie.Need-refuse-requires
 refuse-requires c κs = search needs
 
 returns-2 : tie.Need-returns-2
 unfolding writtenData filed
-returns-2 c = rw (← c .before .before .before .before .before .three-at .ensures, ← c .before .before .before .before .three-at2 .ensures, ← c .before .before .before .file-size .ensures, ← c .before .before .write-status .ensures, ne-eqb (c .before .before .write-status .result) 0 (c .before .if1 .left)) (c .refuse .ensures)
+returns-2 c =
+    rw (
+      ← c .before .before .before .before .before .three-at .ensures,
+      ← c .before .before .before .before .three-at2 .ensures,
+      ← c .before .before .before .file-size .ensures,
+      ← c .before .before .write-status .ensures,
+      ne-eqb (c .before .before .write-status .result) 0 (c .before .if1 .left),
+    ) (c .refuse .ensures)
 
 pub write-data-spec : {M : Type 1} → statement M
 write-data-spec =

@@ -16,11 +16,25 @@ goes-past-requires c κs = search needs
 
 returns-2 : tie.Need-returns-2
 unfolding writeStatus
-returns-2 c = let a = c .before .before .before .before .args in rw (ne-eqb (a .count) 0 (c .before .before .before .if1 .left), eq-eqb (a .count) (a .given) (c .before .before .if2 .taken), ← c .before .goes-past .ensures, c .if3 .taken) refl
+returns-2 c =
+    let a = c .before .before .before .before .args in
+    rw (
+      ne-eqb (a .count) 0 (c .before .before .before .if1 .left),
+      eq-eqb (a .count) (a .given) (c .before .before .if2 .taken),
+      ← c .before .goes-past .ensures,
+      c .if3 .taken,
+    ) refl
 
 returns-3 : tie.Need-returns-3
 unfolding writeStatus
-returns-3 c = let a = c .before .before .before .before .args in rw (ne-eqb (a .count) 0 (c .before .before .before .if1 .left), eq-eqb (a .count) (a .given) (c .before .before .if2 .taken), ← c .before .goes-past .ensures, c .if3 .left) refl
+returns-3 c =
+    let a = c .before .before .before .before .args in
+    rw (
+      ne-eqb (a .count) 0 (c .before .before .before .if1 .left),
+      eq-eqb (a .count) (a .given) (c .before .before .if2 .taken),
+      ← c .before .goes-past .ensures,
+      c .if3 .left,
+    ) refl
 
 returns-4 : tie.Need-returns-4
 unfolding writeStatus

@@ -38,9 +38,17 @@ give-requires c κs = search needs
 returns : tie.Need-returns
 unfolding changedKey
 returns c = let a = c .before .before .before .before .before .before .before .before .before .before .before .before .args in
-    let e = new-is (a .tag) (a .k) (a .p .now) _ _ (c .before .before .before .before .before .before .before .before .before .key-of .ensures) (c .before .before .before .before .before .before .before .before .new-key .ensures) in
-    let n = next-is (a .tag) (a .k) (a .p .now) _ _ _ _ e (c .before .before .before .before .before .at .ensures) (c .before .before .before .before .with-key .ensures) (c .before .before .before .keyed-with .ensures) in
-    rw (status-is (a .tag) (a .k) (a .p .now) _ _ e (c .before .before .before .before .before .before .before .change-status .ensures), eq-eqb _ _ (c .before .before .before .before .before .before .if1 .taken), eq-eqb _ _ (c .before .before .if2 .taken))
+    let e = new-is (a .tag) (a .k) (a .p .now) _ _
+    (c .before .before .before .before .before .before .before .before .before .key-of .ensures)
+    (c .before .before .before .before .before .before .before .before .new-key .ensures) in
+    let n = next-is (a .tag) (a .k) (a .p .now) _ _ _ _ e (c .before .before .before .before .before .at .ensures)
+    (c .before .before .before .before .with-key .ensures) (c .before .before .before .keyed-with .ensures) in
+    rw (
+      status-is (a .tag) (a .k) (a .p .now) _ _ e
+          (c .before .before .before .before .before .before .before .change-status .ensures),
+      eq-eqb _ _ (c .before .before .before .before .before .before .if1 .taken),
+      eq-eqb _ _ (c .before .before .if2 .taken),
+    )
     (subst (λ t. Gives (given t 0x9100 []) (c .give .result)) (c .before .ended .ensures ∙ ap (λ t. endedOf t) n) (c .give .ensures))
 
 accept-requires : tie.Need-accept-requires
@@ -49,9 +57,15 @@ accept-requires c κs = search needs
 returns-2 : tie.Need-returns-2
 unfolding changedKey
 returns-2 c = let a = c .before .before .before .before .before .before .before .before .before .before .before .args in
-    let e = new-is (a .tag) (a .k) (a .p .now) _ _ (c .before .before .before .before .before .before .before .before .key-of .ensures) (c .before .before .before .before .before .before .before .new-key .ensures) in
+    let e = new-is (a .tag) (a .k) (a .p .now) _ _
+    (c .before .before .before .before .before .before .before .before .key-of .ensures)
+    (c .before .before .before .before .before .before .before .new-key .ensures) in
     let n = next-is (a .tag) (a .k) (a .p .now) _ _ _ _ e (c .before .before .before .before .at .ensures) (c .before .before .before .with-key .ensures) (c .before .before .keyed-with .ensures) in
-    rw (status-is (a .tag) (a .k) (a .p .now) _ _ e (c .before .before .before .before .before .before .change-status .ensures), eq-eqb _ _ (c .before .before .before .before .before .if1 .taken), ne-eqb _ _ (c .before .if2 .left))
+    rw (
+      status-is (a .tag) (a .k) (a .p .now) _ _ e (c .before .before .before .before .before .before .change-status .ensures),
+      eq-eqb _ _ (c .before .before .before .before .before .if1 .taken),
+      ne-eqb _ _ (c .before .if2 .left),
+    )
     (subst (λ t. Gives (accepted t Full []) (c .accept .result)) n (c .accept .ensures))
 
 refuse-requires : tie.Need-refuse-requires

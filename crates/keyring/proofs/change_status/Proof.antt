@@ -52,12 +52,24 @@ alike-requires c κs = search needs
 returns-3 : tie.Need-returns-3
 unfolding changeStatus
 returns-3 c =
-    rw (ne-eqb _ _ (c .before .before .before .before .before .before .before .if1 .left), eq-eqb _ _ (c .before .before .before .before .before .before .if3 .taken), behind (c .before .before .before .before .before .before .before .before .before .args .p .now) _ _ _ (c .before .before .before .before .crc-of .ensures) (c .before .alike .ensures), c .if4 .taken)
+    rw (
+      ne-eqb _ _ (c .before .before .before .before .before .before .before .if1 .left),
+      eq-eqb _ _ (c .before .before .before .before .before .before .if3 .taken),
+      behind (c .before .before .before .before .before .before .before .before .before .args .p .now) _ _ _
+          (c .before .before .before .before .crc-of .ensures) (c .before .alike .ensures),
+      c .if4 .taken,
+    )
 
 returns-4 : tie.Need-returns-4
 unfolding changeStatus
 returns-4 c =
-    rw (ne-eqb _ _ (c .before .before .before .before .before .before .before .if1 .left), eq-eqb _ _ (c .before .before .before .before .before .before .if3 .taken), behind (c .before .before .before .before .before .before .before .before .before .args .p .now) _ _ _ (c .before .before .before .before .crc-of .ensures) (c .before .alike .ensures), c .if4 .left)
+    rw (
+      ne-eqb _ _ (c .before .before .before .before .before .before .before .if1 .left),
+      eq-eqb _ _ (c .before .before .before .before .before .before .if3 .taken),
+      behind (c .before .before .before .before .before .before .before .before .before .args .p .now) _ _ _
+          (c .before .before .before .before .crc-of .ensures) (c .before .alike .ensures),
+      c .if4 .left,
+    )
 
 returns-5 : tie.Need-returns-5
 unfolding changeStatus

@@ -1,6 +1,6 @@
 -- `keyring::keyed_with` meets its contract.
 use mathlib.Core.Path.{refl}
-use Rattle.keyring.specs.Keyring.{keyed}
+use Rattle.state.specs.State.{keyed}
 use Rattle.keyring.proofs.keyed_with.Statement.{statement}
 use Rattle.keyring.proofs.keyed_with.Tie as tie
 

@@ -20,14 +20,26 @@ select-name-requires c κs = search needs
 
 returns-2 : tie.Need-returns-2
 unfolding selected
-returns-2 c = rw (← c .before .before .before .before .known-p2 .ensures, c .before .before .before .if1 .taken, lt-leb _ _ (c .before .before .if2 .left), eq-eqb _ _ (c .before .if3 .taken)) (c .select-name .ensures)
+returns-2 c =
+    rw (
+      ← c .before .before .before .before .known-p2 .ensures,
+      c .before .before .before .if1 .taken,
+      lt-leb _ _ (c .before .before .if2 .left),
+      eq-eqb _ _ (c .before .if3 .taken),
+    ) (c .select-name .ensures)
 
 refuse-requires : tie.Need-refuse-requires
 refuse-requires c κs = search needs
 
 returns-3 : tie.Need-returns-3
 unfolding selected
-returns-3 c = rw (← c .before .before .before .before .known-p2 .ensures, c .before .before .before .if1 .taken, lt-leb _ _ (c .before .before .if2 .left), ne-eqb _ _ (c .before .if3 .left)) (c .refuse .ensures)
+returns-3 c =
+    rw (
+      ← c .before .before .before .before .known-p2 .ensures,
+      c .before .before .before .if1 .taken,
+      lt-leb _ _ (c .before .before .if2 .left),
+      ne-eqb _ _ (c .before .if3 .left),
+    ) (c .refuse .ensures)
 
 refuse-requires-2 : tie.Need-refuse-requires-2
 refuse-requires-2 c κs = search needs

@@ -1,8 +1,9 @@
 -- `selects::select_file` meets its contract.
 use mathlib.Core.Path.{subst}
 use mathlib.Core.List.{[]}
+use Rattle.state.specs.State.{placed, tapped}
 use Rattle.answer.specs.Answer.{Gives, given}
-use Rattle.selects.proofs.Choices.{placed, atFile, file-there, file-not}
+use Rattle.selects.proofs.Choices.{atFile, file-there, file-not}
 use borrow.Author.Needs.{needs}
 use Rattle.selects.proofs.select_file.Statement.{statement}
 use Rattle.selects.proofs.select_file.Tie as tie
@@ -14,9 +15,10 @@ give-requires : tie.Need-give-requires
 give-requires c κs = search needs
 
 returns : tie.Need-returns
+unfolding placed tapped
 returns c = let a = c .before .before .before .args in
     file-there (a .tag) (a .n) (c .give .result) (c .before .before .if1 .taken)
-    (subst (λ q. Gives (given (placed (a .tag) (atFile (a .n)) q) 0x9000 []) (c .give .result)) (c .before .quiet .ensures) (c .give .ensures))
+    (subst (λ q. Gives (given (placed (tapped (a .tag) q) (atFile (a .n))) 0x9000 []) (c .give .result)) (c .before .quiet .ensures) (c .give .ensures))
 
 refuse-requires : tie.Need-refuse-requires
 refuse-requires c κs = search needs

@@ -35,7 +35,16 @@ of-id-requires c κs = search needs
 
 returns-2 : tie.Need-returns-2
 unfolding byId
-returns-2 c = rw (ne-eqb _ _ (c .before .before .before .before .before .before .if1 .left), eq-eqb _ _ (c .before .before .before .before .before .if2 .taken), ← c .before .before .before .before .at .ensures, ← c .before .before .before .wide .ensures, ← c .before .before .at2 .ensures, ← c .before .wide2 .ensures) (c .of-id .ensures)
+returns-2 c =
+    let c6 = c .before .before .before .before .before .before in
+    rw (
+      ne-eqb _ _ (c6 .if1 .left),
+      eq-eqb _ _ (c .before .before .before .before .before .if2 .taken),
+      ← c .before .before .before .before .at .ensures,
+      ← c .before .before .before .wide .ensures,
+      ← c .before .before .at2 .ensures,
+      ← c .before .wide2 .ensures,
+    ) (c .of-id .ensures)
 
 refuse-requires : tie.Need-refuse-requires
 refuse-requires c κs = search needs

@@ -28,14 +28,26 @@ move-to-requires-2 c κs = search needs
 
 returns-2 : tie.Need-returns-2
 unfolding byName
-returns-2 c = rw (← c .before .before .before .before .before .alike .ensures, c .before .before .before .before .if1 .left, ← c .before .before .alike2 .ensures, c .before .if2 .taken) (c .move-to2 .ensures)
+returns-2 c =
+    rw (
+      ← c .before .before .before .before .before .alike .ensures,
+      c .before .before .before .before .if1 .left,
+      ← c .before .before .alike2 .ensures,
+      c .before .if2 .taken,
+    ) (c .move-to2 .ensures)
 
 refuse-requires : tie.Need-refuse-requires
 refuse-requires c κs = search needs
 
 returns-3 : tie.Need-returns-3
 unfolding byName
-returns-3 c = rw (← c .before .before .before .before .before .alike .ensures, c .before .before .before .before .if1 .left, ← c .before .before .alike2 .ensures, c .before .if2 .left) (c .refuse .ensures)
+returns-3 c =
+    rw (
+      ← c .before .before .before .before .before .alike .ensures,
+      c .before .before .before .before .if1 .left,
+      ← c .before .before .alike2 .ensures,
+      c .before .if2 .left,
+    ) (c .refuse .ensures)
 
 pub select-name-spec : {M : Type 1} → statement M
 select-name-spec =

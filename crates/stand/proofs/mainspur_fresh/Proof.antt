@@ -3,6 +3,8 @@ use mathlib.Core.Path.{refl}
 use borrow.Author.Needs.{needs}
 use Rattle.stand.proofs.Border.{wrong-made, makes, image-laid}
 use Rattle.state.specs.declared.Made.the-variants.{Fresh, WrongUid}
+use Rattle.state.specs.Fresh.{madeNumber}
+use Rattle.stand.specs.Answers.{makingNumber}
 use Rattle.stand.proofs.mainspur_fresh.Statement.{statement}
 use Rattle.stand.proofs.mainspur_fresh.Tie as tie
 
@@ -25,10 +27,12 @@ same-length : tie.Need-same-length
 same-length c = search needs
 
 returns-2 : tie.Need-returns-2
-returns-2 c = let a = c .before .before .before .before .before .before .before .before .before .before .before .args in makes (a .uid .now) (a .state .now) (c .before .before .before .before .before .before .before .fresh .result) Fresh _ _ (c .before .before .before .before .before .before .before .fresh .ensures) (c .before .before .before .before .before .enum-told .given .1) (c .before .before .before .before .before .before .before .before .if1 .left) refl (image-laid _ (a .state .now) _ (c .before .before .before .before .before .before .before .before .if1 .left) (c .before .before .to-image .ensures .1))
+unfolding makingNumber madeNumber
+returns-2 c = let a = c .before .before .before .before .before .before .before .before .before .before .before .args in makes (a .uid .now) (a .state .now) (c .before .before .before .before .before .before .before .fresh .result) Fresh _ _ (c .before .before .before .before .before .before .before .fresh .ensures .told) (c .before .before .before .before .before .enum-told .given .1) (c .before .before .before .before .before .before .before .before .if1 .left) refl (image-laid _ (a .state .now) _ (c .before .before .before .before .before .before .before .before .if1 .left) (c .before .before .to-image .ensures .1))
 
 returns-3 : tie.Need-returns-3
-returns-3 c = let a = c .before .before .before .before .before .before .args in makes (a .uid .now) (a .state .now) (c .before .before .fresh .result) WrongUid _ _ (c .before .before .fresh .ensures) (c .enum-told2 .given .1) (c .before .before .before .if1 .left) refl refl
+unfolding makingNumber madeNumber
+returns-3 c = let a = c .before .before .before .before .before .before .args in makes (a .uid .now) (a .state .now) (c .before .before .fresh .result) WrongUid _ _ (c .before .before .fresh .ensures .told) (c .enum-told2 .given .1) (c .before .before .before .if1 .left) refl refl
 
 pub mainspur-fresh-spec : {M : Type 1} → statement M
 mainspur-fresh-spec =

@@ -36,7 +36,12 @@ put-requires c κs = search needs
 
 returns : tie.Need-returns
 returns c = let a = c .before .before .before .before .before .before .before .before .args in
-    cut-part (a .text .now) _ (a .at) (a .count) (c .before .before .before .before .before .smaller2 .result) (c .before .before .before .before .before .before .smaller .result) (c .before .before .before .before .smaller3 .result) (c .before .before .before .before .before .before .smaller .ensures) (c .before .before .before .before .before .smaller2 .ensures) (c .before .before .before .before .smaller3 .ensures) (c .before .put .ensures)
+    cut-part (a .text .now) _ (a .at) (a .count) (c .before .before .before .before .before .smaller2 .result)
+    (c .before .before .before .before .before .before .smaller .result)
+    (c .before .before .before .before .smaller3 .result)
+    (c .before .before .before .before .before .before .smaller .ensures)
+    (c .before .before .before .before .before .smaller2 .ensures) (c .before .before .before .before .smaller3 .ensures)
+    (c .before .put .ensures)
 
 pub cut-spec : {M : Type 1} → statement M
 cut-spec =

@@ -24,14 +24,20 @@ part-cut-start : tie.Need-part-cut-start
 part-cut-start c = search needs
 
 part-cut-end : tie.Need-part-cut-end
-part-cut-end c = let a = c .before .before .before .before .args in let l : length (a .f .bytes) ≡ 416 = search needs in omega (arith, file-fits (a .n), c .before .before .file-start .ensures, c .before .file-size .ensures)
+part-cut-end c =
+    let a = c .before .before .before .before .args in
+    let l : length (a .f .bytes) ≡ 416 = search needs in
+    omega (arith, file-fits (a .n), c .before .before .file-start .ensures, c .before .file-size .ensures)
 
 cut-requires : tie.Need-cut-requires
 cut-requires c κs = search needs
 
 returns : tie.Need-returns
 returns c = let a = c .before .before .before .before .before .before .args in
-    c .cut .ensures ∙ ap (λ s. partOf s (a .at) (a .count)) (file-there (a .f) (a .n) (c .before .before .before .before .file-start .result) (c .before .before .before .file-size .result) (c .before .before .before .before .file-start .ensures) (c .before .before .before .file-size .ensures))
+    c .cut .ensures ∙ ap (λ s. partOf s (a .at) (a .count))
+    (file-there (a .f) (a .n) (c .before .before .before .before .file-start .result)
+    (c .before .before .before .file-size .result) (c .before .before .before .before .file-start .ensures)
+    (c .before .before .before .file-size .ensures))
 
 pub file-part-spec : {M : Type 1} → statement M
 file-part-spec =

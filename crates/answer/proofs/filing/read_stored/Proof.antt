@@ -17,7 +17,9 @@ accept-requires c κs = search needs
 returns : tie.Need-returns
 unfolding stored
 returns c = let a = c .before .before .before .args in
-    subst (λ d. Gives (accepted (a .tag) (a .m) d) (c .accept .result)) (part-given (fileOf (a .tag .files) (a .n)) (a .at) (a .count) (c .before .before .file-part .result) (file-short (a .tag .files) (a .n)) (c .before .before .file-part .ensures))
+    subst (λ d. Gives (accepted (a .tag) (a .m) d) (c .accept .result))
+    (part-given (fileOf (a .tag .files) (a .n)) (a .at) (a .count) (c .before .before .file-part .result)
+    (file-short (a .tag .files) (a .n)) (c .before .before .file-part .ensures))
     (c .accept .ensures)
 
 pub read-stored-spec : {M : Type 1} → statement M

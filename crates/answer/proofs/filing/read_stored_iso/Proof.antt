@@ -20,7 +20,9 @@ give-requires c κs = search needs
 returns : tie.Need-returns
 unfolding storedIso
 returns c = let a = c .before .before .before .before .args in
-    subst (λ x. Gives x (c .give .result)) (ap₂ (λ t d. given t 0x9000 d) (c .before .after .ensures) (part-given (fileOf (a .tag .files) (a .n)) (a .at) (a .count) (c .before .before .before .file-part .result) (file-short (a .tag .files) (a .n)) (c .before .before .before .file-part .ensures)))
+    subst (λ x. Gives x (c .give .result)) (ap₂ (λ t d. given t 0x9000 d) (c .before .after .ensures)
+    (part-given (fileOf (a .tag .files) (a .n)) (a .at) (a .count) (c .before .before .before .file-part .result)
+    (file-short (a .tag .files) (a .n)) (c .before .before .before .file-part .ensures)))
     (c .give .ensures)
 
 pub read-stored-iso-spec : {M : Type 1} → statement M

@@ -1,8 +1,8 @@
 -- `answer::filing::read_tap` meets its contract.
 use mathlib.Core.Path.{_≡_, subst}
 use lib.ListN.{length}
+use Rattle.state.specs.State.{tapped}
 use Rattle.answer.specs.Answer.{Gives}
-use Rattle.answer.specs.Filing.{tapped}
 use Rattle.answer.proofs.Parts.{reads-shown, reads-refused}
 use borrow.Author.Needs.{needs}
 use Rattle.answer.proofs.filing.read_tap.Statement.{statement}
@@ -21,7 +21,9 @@ returns : tie.Need-returns
 unfolding tapped
 returns c = let a = c .before .before .before .before .before .before .before .before .args in let g = c .before .before .before .before .before .before .before .before .good .1 .0 .1 .1 in
     let l : length (a .s .bytes) ≡ 256 = search needs in
-    subst (λ x. Gives x (c .give .result)) (reads-shown (a .tag) (a .s) (a .accepting) (a .refusing) (a .at) (a .count) (c .before .before .cut .result) (c .before .before .before .before .before .before .if1 .taken) l (c .before .before .cut .ensures))
+    subst (λ x. Gives x (c .give .result)) (reads-shown (a .tag) (a .s) (a .accepting) (a .refusing) (a .at) (a .count)
+    (c .before .before .cut .result) (c .before .before .before .before .before .before .if1 .taken) l
+    (c .before .before .cut .ensures))
     (c .give .ensures)
 
 refuse-requires : tie.Need-refuse-requires

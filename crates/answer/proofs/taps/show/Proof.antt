@@ -16,7 +16,9 @@ no-show-requires c κs = search needs
 
 returns : tie.Need-returns
 returns c = let a = c .before .before .before .before .before .before .args in
-    c .no-show .ensures ∙ shows-refused (a .tag) (a .r) (a .iso) (a .random) (c .before .before .before .before .goes-on .result) (c .before .before .start-status .result) (c .before .before .before .before .goes-on .ensures) (c .before .before .start-status .ensures) (c .before .if1 .taken)
+    c .no-show .ensures ∙ shows-refused (a .tag) (a .r) (a .iso) (a .random) (c .before .before .before .before .goes-on .result)
+    (c .before .before .start-status .result) (c .before .before .before .before .goes-on .ensures)
+    (c .before .before .start-status .ensures) (c .before .if1 .taken)
 
 count-requires : tie.Need-count-requires
 count-requires c κs = search needs
@@ -32,16 +34,33 @@ lay-requires c κs = search needs
 
 returns-2 : tie.Need-returns-2
 returns-2 c = let a = c .before .before .before .before .before .before .before .before .before .before .before .args in
-    shows-laid (a .tag) (a .r) (a .iso) (a .random) (c .before .before .before .before .before .before .before .before .before .goes-on .result) (c .before .before .before .before .before .before .before .start-status .result) (c .before .before .before .before .before .before .before .before .before .goes-on .ensures) (c .before .before .before .before .before .before .before .start-status .ensures)
-    (c .before .before .before .before .before .count .result) (c .before .before .before .before .second .result) (c .before .before .before .mirror-for .result) (c .before .before .lay .result) (c .before .before .before .before .before .before .if1 .left) (c .before .before .before .before .before .count .ensures) (c .before .before .before .before .second .ensures) (c .before .before .before .mirror-for .ensures) (c .before .before .lay .ensures) (c .if2 .taken)
+    shows-laid (a .tag) (a .r) (a .iso) (a .random)
+    (c .before .before .before .before .before .before .before .before .before .goes-on .result)
+    (c .before .before .before .before .before .before .before .start-status .result)
+    (c .before .before .before .before .before .before .before .before .before .goes-on .ensures)
+    (c .before .before .before .before .before .before .before .start-status .ensures)
+    (c .before .before .before .before .before .count .result) (c .before .before .before .before .second .result)
+    (c .before .before .before .mirror-for .result) (c .before .before .lay .result)
+    (c .before .before .before .before .before .before .if1 .left)
+    (c .before .before .before .before .before .count .ensures) (c .before .before .before .before .second .ensures)
+    (c .before .before .before .mirror-for .ensures) (c .before .before .lay .ensures) (c .if2 .taken)
 
 no-show-requires-2 : tie.Need-no-show-requires-2
 no-show-requires-2 c κs = search needs
 
 returns-3 : tie.Need-returns-3
 returns-3 c = let a = c .before .before .before .before .before .before .before .before .before .before .before .before .args in
-    c .no-show2 .ensures ∙ shows-outside (a .tag) (a .r) (a .iso) (a .random) (c .before .before .before .before .before .before .before .before .before .before .goes-on .result) (c .before .before .before .before .before .before .before .before .start-status .result) (c .before .before .before .before .before .before .before .before .before .before .goes-on .ensures) (c .before .before .before .before .before .before .before .before .start-status .ensures)
-    (c .before .before .before .before .before .before .count .result) (c .before .before .before .before .before .second .result) (c .before .before .before .before .mirror-for .result) (c .before .before .before .lay .result) (c .before .before .before .before .before .before .before .if1 .left) (c .before .before .before .before .before .before .count .ensures) (c .before .before .before .before .before .second .ensures) (c .before .before .before .before .mirror-for .ensures) (c .before .before .before .lay .ensures) (c .before .if2 .left)
+    c .no-show2 .ensures ∙ shows-outside (a .tag) (a .r) (a .iso) (a .random)
+    (c .before .before .before .before .before .before .before .before .before .before .goes-on .result)
+    (c .before .before .before .before .before .before .before .before .start-status .result)
+    (c .before .before .before .before .before .before .before .before .before .before .goes-on .ensures)
+    (c .before .before .before .before .before .before .before .before .start-status .ensures)
+    (c .before .before .before .before .before .before .count .result)
+    (c .before .before .before .before .before .second .result) (c .before .before .before .before .mirror-for .result)
+    (c .before .before .before .lay .result) (c .before .before .before .before .before .before .before .if1 .left)
+    (c .before .before .before .before .before .before .count .ensures)
+    (c .before .before .before .before .before .second .ensures) (c .before .before .before .before .mirror-for .ensures)
+    (c .before .before .before .lay .ensures) (c .before .if2 .left)
 
 pub show-spec : {M : Type 1} → statement M
 show-spec =

@@ -19,7 +19,7 @@ fresh-requires : tie.Need-fresh-requires
 fresh-requires c κs = search needs
 
 returns : tie.Need-returns
-returns c = ap (λ (b : Birth). b .tag) (c .before .fresh .ensures ∙ ap born (c .before .before .before .before .decode .ensures .1))
+returns c = ap (λ (b : Birth). b .tag) (c .before .fresh .ensures .told ∙ ap born (c .before .before .before .before .decode .ensures .1))
 
 pub fresh-spec : {M : Type 1} → statement M
 fresh-spec =

@@ -12,7 +12,7 @@ fresh-requires c κs = search needs
 
 returns : tie.Need-returns
 unfolding born rightUid
-returns c = λ i. record { found = c .before .before .before .args .found; tag = c .before .fresh .ensures i .tag }
+returns c = λ i. record { found = c .before .before .before .args .found; tag = c .before .fresh .ensures .told i .tag }
 
 pub refused-spec : {M : Type 1} → statement M
 refused-spec = tie.close (tie.spec slice-aggregate-fresh fresh-requires returns)

@@ -50,7 +50,12 @@ put-requires-4 c κs = search needs
 
 returns : tie.Need-returns
 unfolding deliveredFiles container laid
-returns c = ap₂ (λ b r. files b r) (c .before .before .before .before .before .before .before .before .before .before .before .before .before .put .ensures) (c .before .put4 .ensures ∙ ap (λ d. laid thirdRules 54 d) (c .before .before .before .before .before .put3 .ensures ∙ ap (λ d. laid secondRules 27 d) (c .before .before .before .before .before .before .before .before .before .put2 .ensures)))
+returns c =
+    let c9 = c .before .before .before .before .before .before .before .before .before in
+    let c13 = c9 .before .before .before .before in
+    ap₂ (λ b r. files b r) (c13 .put .ensures) (c .before .put4 .ensures
+    ∙ ap (λ d. laid thirdRules 54 d) (c .before .before .before .before .before .put3 .ensures
+    ∙ ap (λ d. laid secondRules 27 d) (c9 .put2 .ensures)))
 
 pub delivered-spec : {M : Type 1} → statement M
 delivered-spec =

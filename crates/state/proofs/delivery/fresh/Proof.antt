@@ -10,8 +10,9 @@ use borrow.Author.Tests.{eq-eqb, ne-eqb}
 use lib.ListN.{length, replicate}
 use Prim.Native.Nat.{ℕ}
 use mathlib.Core.List.{List}
-use mathlib.Core.Path.{ap, ap₂, _∙_}
+use mathlib.Core.Path.{_≡_, ap, ap₂, _∙_}
 use Rattle.state.specs.Fresh.{born, rightUid}
+use Rattle.state.proofs.Births.{births}
 use borrow.Author.Needs.{needs}
 use Rattle.state.proofs.delivery.fresh.Statement.{statement}
 use Rattle.state.proofs.delivery.fresh.Tie as tie
@@ -28,14 +29,23 @@ zeroed-requires c κs = search needs
 
 returns : tie.Need-returns
 unfolding born rightUid
-returns c = rw (ne-eqb (length (c .before .before .before .args .uid .now)) 7 (c .if1 .taken)) (ap (λ t. birth WrongUid t) (c .before .zeroed .ensures))
+returns c =
+    let u = c .before .before .before .args .uid .now in
+    let e : birth WrongUid (c .before .zeroed .result) ≡ born u =
+    rw (ne-eqb (length u) 7 (c .if1 .taken)) (ap (λ t. birth WrongUid t) (c .before .zeroed .ensures)) in
+    births u _ e
 
 shared-slice-read-if2 : tie.Need-shared-slice-read-if2
 shared-slice-read-if2 c = search needs
 
 returns-2 : tie.Need-returns-2
 unfolding born rightUid
-returns-2 c = rw (eq-eqb (length (c .before .before .before .before .before .args .uid .now)) 7 (c .before .before .if1 .left), ne-eqb (byteAt (c .before .before .before .before .before .args .uid .now) 0) 4 (c .if2 .taken)) (ap (λ t. birth WrongUid t) (c .before .before .before .zeroed .ensures))
+returns-2 c =
+    let u = c .before .before .before .before .before .args .uid .now in
+    let e : birth WrongUid (c .before .before .before .zeroed .result) ≡ born u =
+    rw (eq-eqb (length u) 7 (c .before .before .if1 .left), ne-eqb (byteAt u 0) 4 (c .if2 .taken))
+    (ap (λ t. birth WrongUid t) (c .before .before .before .zeroed .ensures)) in
+    births u _ e
 
 slice-aggregate-put : tie.Need-slice-aggregate-put
 slice-aggregate-put c = search needs
@@ -48,7 +58,18 @@ delivered-requires c κs = search needs
 
 returns-3 : tie.Need-returns-3
 unfolding born rightUid blank freshTag
-returns-3 c = let u = c .before .before .before .before .before .before .before .before .before .args .uid .now in rw (eq-eqb (length u) 7 (c .before .before .before .before .before .before .if1 .left), eq-eqb (byteAt u 0) 4 (c .before .before .before .before .if2 .left)) (ap (λ t. birth Fresh t) (ap₂ (λ x y. with-uid x y (c .before .before .before .before .before .before .before .zeroed .result)) (c .before .before .put .ensures ∙ laid-whole u (replicate 7 0) (c .before .before .before .before .before .before .if1 .left)) (c .delivered .ensures) ∙ ap (λ t. with-uid u deliveredFiles t) (c .before .before .before .before .before .before .before .zeroed .ensures)))
+returns-3 c =
+    let b = c .before .before .before .before .before .before in
+    let u = b .before .before .before .args .uid .now in
+    let z = b .before .zeroed in
+    let seven = b .if1 .left in
+    let four = c .before .before .before .before .if2 .left in
+    let t : with-uid (c .before .before .put .last .1 .0) (c .delivered .result) (z .result) ≡ freshTag u =
+    ap₂ (λ x y. with-uid x y (z .result)) (c .before .before .put .ensures ∙ laid-whole u (replicate 7 0) seven) (c .delivered .ensures)
+    ∙ ap (λ t. with-uid u deliveredFiles t) (z .ensures) in
+    let e : birth Fresh (with-uid (c .before .before .put .last .1 .0) (c .delivered .result) (z .result)) ≡ born u =
+    rw (eq-eqb (length u) 7 seven, eq-eqb (byteAt u 0) 4 four) (ap (λ x. birth Fresh x) t) in
+    births u _ e
 
 pub fresh-spec : {M : Type 1} → statement M
 fresh-spec =

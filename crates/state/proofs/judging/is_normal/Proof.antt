@@ -15,10 +15,16 @@ enum-known-a : tie.Need-enum-known-a
 enum-known-a c = search needs
 
 array-share-prefix-room : tie.Need-array-share-prefix-room
-array-share-prefix-room c = laid-within (laid-normal _ _ _ _ (c .before .a .given .0 .0) (sym (c .before .before .before .before .normalise .ensures .0) ∙ c .before .a .given .1) (c .before .before .before .before .normalise .ensures .1))
+array-share-prefix-room c =
+    let c4 = c .before .before .before .before in
+    laid-within (laid-normal _ _ _ _ (c .before .a .given .0 .0) (sym (c4 .normalise .ensures .0) ∙ c .before .a .given .1)
+    (c4 .normalise .ensures .1))
 
 slice-aggregate-alike : tie.Need-slice-aggregate-alike
-slice-aggregate-alike c = sym (length-take-le _ _ (laid-within (laid-normal _ _ _ _ (c .before .before .a .given .0 .0) (sym (c .before .before .before .before .before .normalise .ensures .0) ∙ c .before .before .a .given .1) (c .before .before .before .before .before .normalise .ensures .1))))
+slice-aggregate-alike c =
+    let c5 = c .before .before .before .before .before in
+    sym (length-take-le _ _ (laid-within (laid-normal _ _ _ _ (c .before .before .a .given .0 .0)
+    (sym (c5 .normalise .ensures .0) ∙ c .before .before .a .given .1) (c5 .normalise .ensures .1))))
 
 alike-requires : tie.Need-alike-requires
 alike-requires c κs = search needs
@@ -30,7 +36,10 @@ enum-told-2 : tie.Need-enum-told-2
 enum-told-2 c = search needs
 
 returns : tie.Need-returns
-returns c = c .alike .ensures ∙ told-normal refl (laid-normal _ _ _ _ (c .before .before .before .a .given .0 .0) (sym (c .before .before .before .before .before .before .normalise .ensures .0) ∙ c .before .before .before .a .given .1) (c .before .before .before .before .before .before .normalise .ensures .1))
+returns c =
+    let c6 = c .before .before .before .before .before .before in
+    c .alike .ensures ∙ told-normal refl (laid-normal _ _ _ _ (c .before .before .before .a .given .0 .0)
+    (sym (c6 .normalise .ensures .0) ∙ c .before .before .before .a .given .1) (c6 .normalise .ensures .1))
 
 returns-2 : tie.Need-returns-2
 returns-2 c = told-bad _ _ _ (c .enum-told .given .0 .0) (sym (c .before .before .before .normalise .ensures .0) ∙ c .enum-told .given .1)

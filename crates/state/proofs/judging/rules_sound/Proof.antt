@@ -1,51 +1,59 @@
-use Rattle.settings.specs.Answers.{judged}
-use Rattle.state.proofs.Strings.{slot-small, cut-small, cut-fits, string-from, fine, string-fine}
-use Rattle.base.specs.Bytes.{byteAt}
-use lib.ListN.{length}
+-- `state::judging::rules_sound` meets its contract.
+use mathlib.Core.Path.{_≡_, refl, sym, ap, _∙_}
+use mathlib.Core.Bool.{true}
 use native.Mathlib.Omega.{arith}
-use Prim.Native.Nat.{_≤_}
-use mathlib.Core.Path.{_≡_, ap, _∙_}
+use lib.Dec.{leb}
 use borrow.Author.Needs.{needs}
+use borrow.Author.Tests.{le-leb, lt-leb}
+use Rattle.base.specs.Bytes.{byteAt}
+use Rattle.settings.specs.Answers.{judged}
+use Rattle.state.specs.State.{slotOf}
+use Rattle.state.proofs.Strings.{fine, string-fine}
 use Rattle.state.proofs.judging.rules_sound.Statement.{statement}
 use Rattle.state.proofs.judging.rules_sound.Tie as tie
+
+slice-aggregate-at : tie.Need-slice-aggregate-at
+slice-aggregate-at c = search needs
 
 slot-of-requires : tie.Need-slot-of-requires
 slot-of-requires c κs = search needs
 
-mul-at : tie.Need-mul-at
-mul-at c = omega (arith, slot-small (c .before .before .args .n), c .slot-of .ensures)
+at-requires : tie.Need-at-requires
+at-requires c κs = search needs
 
-string-len-requires : tie.Need-string-len-requires
-string-len-requires c κs = search needs
-
-add-is-normal : tie.Need-add-is-normal
-add-is-normal c = omega (arith, slot-small (c .before .before .before .args .n), c .before .slot-of .ensures, cut-small (byteAt (c .before .before .before .args .lens) (c .before .slot-of .result)), c .string-len .ensures)
-
-sub-is-normal : tie.Need-sub-is-normal
-sub-is-normal c = search needs
-
-part-is-normal-start : tie.Need-part-is-normal-start
-part-is-normal-start c = search needs
-
-part-is-normal-end : tie.Need-part-is-normal-end
-part-is-normal-end c = let a = c .before .before .before .args in let l : length (a .lens) ≡ 3 = search needs in let r : length (a .rules .now) ≡ 81 = search needs in let h : c .before .slot-of .result ≤ 3 = omega (arith, slot-small (a .n), c .before .slot-of .ensures) in omega (arith, cut-fits (a .lens) (c .before .slot-of .result) l h, c .string-len .ensures)
+string-in-requires : tie.Need-string-in-requires
+string-in-requires c κs = search needs
 
 is-normal-requires : tie.Need-is-normal-requires
 is-normal-requires c κs = search needs
 
 returns : tie.Need-returns
-returns c = let a = c .before .before .before .before .before .args in c .is-normal .ensures ∙ ap (λ s. fine (judged (a .n) s) s) (string-from (a .rules .now) (a .lens) (a .n) (c .before .before .before .slot-of .result) (c .before .before .string-len .result) (c .before .before .before .slot-of .ensures) (c .before .before .string-len .ensures)) ∙ string-fine (a .rules .now) (a .lens) (a .n)
+returns c =
+    let b = c .before .before .before in
+    let a = b .before .before .before .args in
+    let l : b .at .result ≡ byteAt (a .t2) (slotOf (a .n)) = b .at .ensures ∙ ap (byteAt (a .t2)) (b .before .slot-of .ensures) in
+    let short : leb (byteAt (a .t2) (slotOf (a .n))) 27 ≡ true =
+    ap (λ k. leb k 27) (sym l) ∙ le-leb (b .at .result) 27 (c .before .before .if1 .taken) in
+    rw short
+    (c .is-normal .ensures
+    ∙ ap (λ s. fine (judged (a .n) s) s) (c .before .string-in .ensures)
+    ∙ string-fine (a .rules .now) (a .t2) (a .n))
+
+returns-2 : tie.Need-returns-2
+returns-2 c =
+    let b = c .before in
+    let a = b .before .before .before .args in
+    let l : b .at .result ≡ byteAt (a .t2) (slotOf (a .n)) = b .at .ensures ∙ ap (byteAt (a .t2)) (b .before .slot-of .ensures) in
+    rw (← l, lt-leb (b .at .result) 27 (c .if1 .left)) refl
 
 pub rules-sound-spec : {M : Type 1} → statement M
 rules-sound-spec =
     tie.close
     (tie.spec
+    slice-aggregate-at
     slot-of-requires
-    mul-at
-    string-len-requires
-    add-is-normal
-    sub-is-normal
-    part-is-normal-start
-    part-is-normal-end
+    at-requires
+    string-in-requires
     is-normal-requires
-    returns)
+    returns
+    returns-2)

@@ -52,7 +52,34 @@ both-requires-7 c κs = search needs
 
 returns : tie.Need-returns
 unfolding soundTag
-returns c = let f = c .before .before .before .before .before .before .before .before .before .before .before .before .before .before .before .before .before .before .before .before .before .before .args .t .files in simp (c .both7 .ensures, c .before .both6 .ensures, c .before .before .both5 .ensures, c .before .before .before .both4 .ensures, c .before .before .before .before .both3 .ensures, c .before .before .before .before .before .both2 .ensures, c .before .before .before .before .before .before .both .ensures, c .before .before .before .before .before .before .before .level-sound .ensures, c .before .before .before .before .before .before .before .before .alone-sound .ensures, c .before .before .before .before .before .before .before .before .before .keys-sound .ensures, rules-there f 3 (c .before .before .before .before .before .before .before .before .before .before .before .rules-sound3 .ensures), rules-there f 2 (c .before .before .before .before .before .before .before .before .before .before .before .before .before .rules-sound2 .ensures), rules-there f 1 (c .before .before .before .before .before .before .before .before .before .before .before .before .before .before .before .rules-sound .ensures), c .before .before .before .before .before .before .before .before .before .before .before .before .before .before .before .before .before .head-of .ensures ∙ head-there f 2)
+returns c =
+    let c6 = c .before .before .before .before .before .before in
+    let c7 = c6 .before in
+    let c8 = c7 .before in
+    let c9 = c8 .before in
+    let c11 = c9 .before .before in
+    let c13 = c11 .before .before in
+    let c15 = c13 .before .before in
+    let c17 = c15 .before .before in
+    let c22 = c17 .before .before .before .before .before in
+    let f = c22 .args .t .files in
+    simp (
+      c .both7 .ensures,
+      c .before .both6 .ensures,
+      c .before .before .both5 .ensures,
+      c .before .before .before .both4 .ensures,
+      c .before .before .before .before .both3 .ensures,
+      c .before .before .before .before .before .both2 .ensures,
+      c6 .both .ensures,
+      c7 .level-sound .ensures,
+      c8 .alone-sound .ensures,
+      c9 .keys-sound .ensures,
+      rules-there f 3 (c11 .rules-sound3 .ensures),
+      rules-there f 2 (c13 .rules-sound2 .ensures),
+      rules-there f 1 (c15 .rules-sound .ensures),
+      c17 .head-of .ensures
+          ∙ head-there f 2,
+    )
 
 pub sound-spec : {M : Type 1} → statement M
 sound-spec =

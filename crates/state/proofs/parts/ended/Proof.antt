@@ -1,4 +1,4 @@
-use Rattle.state.specs.State.{endedOf}
+use Rattle.state.specs.State.{talking, endedOf}
 use borrow.Author.Needs.{needs}
 use Rattle.state.proofs.parts.ended.Statement.{statement}
 use Rattle.state.proofs.parts.ended.Tie as tie
@@ -13,7 +13,7 @@ quiet-requires : tie.Need-quiet-requires
 quiet-requires c κs = search needs
 
 returns : tie.Need-returns
-unfolding endedOf
+unfolding endedOf talking
 returns c = simp (c .before .before .no-live .ensures, c .before .no-pending .ensures, c .quiet .ensures)
 
 pub ended-spec : {M : Type 1} → statement M

@@ -33,7 +33,14 @@ put-requires c κs = search needs
 
 returns : tie.Need-returns
 unfolding keyIn
-returns c = let a = c .before .before .before .before .before .before .args in let n : a .k * 16 + 16 - a .k * 16 ≡ 16 = omega arith in let l : length (a .t1) ≡ 80 = search needs in rw (le-leb (a .k) 4 (c .before .before .before .before .before .if1 .taken)) (c .before .put .ensures ∙ ap (λ m. laid (take m (drop (a .k * 16) (a .t1))) 0 (replicate 16 0)) n ∙ laid-whole (take 16 (drop (a .k * 16) (a .t1))) (replicate 16 0) (simp (length-take, length-drop) (omega arith)))
+returns c =
+    let c6 = c .before .before .before .before .before .before in
+    let a = c6 .args in
+    let n : a .k * 16 + 16 - a .k * 16 ≡ 16 = omega arith in
+    let l : length (a .t1) ≡ 80 = search needs in
+    rw (le-leb (a .k) 4 (c .before .before .before .before .before .if1 .taken))
+    (c .before .put .ensures ∙ ap (λ m. laid (take m (drop (a .k * 16) (a .t1))) 0 (replicate 16 0)) n
+    ∙ laid-whole (take 16 (drop (a .k * 16) (a .t1))) (replicate 16 0) (simp (length-take, length-drop) (omega arith)))
 
 returns-2 : tie.Need-returns-2
 unfolding keyIn

@@ -18,7 +18,12 @@ refuse-requires-2 c κs = search needs
 
 returns-2 : tie.Need-returns-2
 unfolding answered
-returns-2 c = rw (le-ltb (length (c .before .before .before .before .args .c .now)) 4 (c .before .before .if1 .left), lt-ltb 261 (length (c .before .before .before .before .args .c .now)) (c .before .if2 .taken)) (c .refuse2 .ensures)
+returns-2 c =
+    let c4 = c .before .before .before .before in
+    rw (
+      le-ltb (length (c4 .args .c .now)) 4 (c .before .before .if1 .left),
+      lt-ltb 261 (length (c4 .args .c .now)) (c .before .if2 .taken),
+    ) (c .refuse2 .ensures)
 
 at-requires : tie.Need-at-requires
 at-requires c κs = search needs
@@ -34,15 +39,37 @@ refuse-requires-3 c κs = search needs
 
 returns-3 : tie.Need-returns-3
 unfolding answered
-returns-3 c = rw (le-ltb (length (c .before .before .before .before .before .before .args .c .now)) 4 (c .before .before .before .before .if1 .left), le-ltb 261 (length (c .before .before .before .before .before .before .args .c .now)) (c .before .before .before .if2 .left), ← c .before .before .at .ensures, eq-eqb (c .before .before .at .result) 0x90 (c .before .match .keys1)) (c .wrapped .ensures)
+returns-3 c =
+    let c6 = c .before .before .before .before .before .before in
+    rw (
+      le-ltb (length (c6 .args .c .now)) 4 (c .before .before .before .before .if1 .left),
+      le-ltb 261 (length (c6 .args .c .now)) (c .before .before .before .if2 .left),
+      ← c .before .before .at .ensures,
+      eq-eqb (c .before .before .at .result) 0x90 (c .before .match .keys1),
+    ) (c .wrapped .ensures)
 
 returns-4 : tie.Need-returns-4
 unfolding answered
-returns-4 c = rw (le-ltb (length (c .before .before .before .before .before .before .args .c .now)) 4 (c .before .before .before .before .if1 .left), le-ltb 261 (length (c .before .before .before .before .before .before .args .c .now)) (c .before .before .before .if2 .left), ← c .before .before .at .ensures, c .before .match .keys2) (c .inter-industry .ensures)
+returns-4 c =
+    let c6 = c .before .before .before .before .before .before in
+    rw (
+      le-ltb (length (c6 .args .c .now)) 4 (c .before .before .before .before .if1 .left),
+      le-ltb 261 (length (c6 .args .c .now)) (c .before .before .before .if2 .left),
+      ← c .before .before .at .ensures,
+      c .before .match .keys2,
+    ) (c .inter-industry .ensures)
 
 returns-5 : tie.Need-returns-5
 unfolding answered
-returns-5 c = rw (le-ltb (length (c .before .before .before .before .before .before .args .c .now)) 4 (c .before .before .before .before .if1 .left), le-ltb 261 (length (c .before .before .before .before .before .before .args .c .now)) (c .before .before .before .if2 .left), ← c .before .before .at .ensures, ne-eqb (c .before .before .at .result) 0x90 (c .before .match .rest .0 .1), ne-eqb (c .before .before .at .result) 0 (c .before .match .rest .1)) (c .refuse3 .ensures)
+returns-5 c =
+    let c6 = c .before .before .before .before .before .before in
+    rw (
+      le-ltb (length (c6 .args .c .now)) 4 (c .before .before .before .before .if1 .left),
+      le-ltb 261 (length (c6 .args .c .now)) (c .before .before .before .if2 .left),
+      ← c .before .before .at .ensures,
+      ne-eqb (c .before .before .at .result) 0x90 (c .before .match .rest .0 .1),
+      ne-eqb (c .before .before .at .result) 0 (c .before .match .rest .1),
+    ) (c .refuse3 .ensures)
 
 pub answered-spec : {M : Type 1} → statement M
 answered-spec =

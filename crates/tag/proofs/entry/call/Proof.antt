@@ -20,7 +20,9 @@ unanswered-requires-2 c κs = search needs
 
 returns-2 : tie.Need-returns-2
 returns-2 c = let a = c .before .before .before .before .before .before .args in
-    calls (a .tag) (a .command .now) (a .random .now) (a .room .now) _ _ WrongRandom (wrong-random (a .tag) (a .random .now) (a .room .now) (c .before .before .if1 .left) (c .before .if2 .taken)) (c .unanswered2 .ensures) refl
+    calls (a .tag) (a .command .now) (a .random .now) (a .room .now) _ _ WrongRandom
+    (wrong-random (a .tag) (a .random .now) (a .room .now) (c .before .before .if1 .left) (c .before .if2 .taken))
+    (c .unanswered2 .ensures) refl
     (no-length WrongRandom (a .tag) _ (c .unanswered2 .ensures))
 
 sound-requires : tie.Need-sound-requires
@@ -35,7 +37,10 @@ same-length c = search needs
 returns-3 : tie.Need-returns-3
 returns-3 c = let a = c .before .before .before .before .before .before .before .before .before .before .before .args in
     calls (a .tag) (a .command .now) (a .random .now) (a .room .now) _ _ Replied
-    (sound-or-not (a .tag) (a .random .now) (a .room .now) (c .before .before .before .before .before .before .before .if1 .left) (c .before .before .before .before .before .before .if2 .left) ∙ ap (λ b. pick b Replied Unsound) (sym (c .before .before .before .before .before .sound .ensures) ∙ c .before .before .before .before .if3 .taken))
+    (sound-or-not (a .tag) (a .random .now) (a .room .now) (c .before .before .before .before .before .before .before .if1 .left)
+    (c .before .before .before .before .before .before .if2 .left)
+    ∙ ap (λ b. pick b Replied Unsound) (sym (c .before .before .before .before .before .sound .ensures)
+    ∙ c .before .before .before .before .if3 .taken))
     (c .before .before .reply .ensures .told) (c .before .before .reply .ensures .left) (c .before .before .reply .ensures .short)
 
 unanswered-requires-3 : tie.Need-unanswered-requires-3
@@ -44,7 +49,9 @@ unanswered-requires-3 c κs = search needs
 returns-4 : tie.Need-returns-4
 returns-4 c = let a = c .before .before .before .before .before .before .before .before .args in
     calls (a .tag) (a .command .now) (a .random .now) (a .room .now) _ _ Unsound
-    (sound-or-not (a .tag) (a .random .now) (a .room .now) (c .before .before .before .before .if1 .left) (c .before .before .before .if2 .left) ∙ ap (λ b. pick b Replied Unsound) (sym (c .before .before .sound .ensures) ∙ c .before .if3 .left))
+    (sound-or-not (a .tag) (a .random .now) (a .room .now) (c .before .before .before .before .if1 .left)
+    (c .before .before .before .if2 .left) ∙ ap (λ b. pick b Replied Unsound)
+    (sym (c .before .before .sound .ensures) ∙ c .before .if3 .left))
     (c .unanswered3 .ensures) refl (no-length Unsound (a .tag) _ (c .unanswered3 .ensures))
 
 pub call-spec : {M : Type 1} → statement M

@@ -36,8 +36,13 @@ same-length : tie.Need-same-length
 same-length c = search needs
 
 returns : tie.Need-returns
-returns c = let a = c .before .before .before .before .before .before .before .before .before .before .before .args in let l : length (a .t1) ≡ 258 = search needs in let p = c .before .before .before .before .before .before .before .before .before .before .before .pre in
-    laid-reply (take (a .n) (a .t1)) (a .n) (a .status) (a .room .now) _ _ (length-take-le (a .n) (a .t1) (omega arith)) (p .0) (p .1) (c .before .before .before .before .before .before .before .put .ensures) (c .before .before .put2 .ensures)
+returns c =
+    let c11 = c .before .before .before .before .before .before .before .before .before .before .before in
+    let a = c11 .args in
+    let l : length (a .t1) ≡ 258 = search needs in
+    let p = c11 .pre in
+    laid-reply (take (a .n) (a .t1)) (a .n) (a .status) (a .room .now) _ _ (length-take-le (a .n) (a .t1) (omega arith)) (p .0)
+    (p .1) (c .before .before .before .before .before .before .before .put .ensures) (c .before .before .put2 .ensures)
 
 pub lay-spec : {M : Type 1} → statement M
 lay-spec =

@@ -26,7 +26,11 @@ same-length c = search needs
 returns : tie.Need-returns
 returns c = let a = c .before .before .before .before .before .before .before .before .before .before .before .before .before .args in
     replies (answered (a .tag) (a .command .now) (a .random .now)) (c .before .before .before .before .before .before .answered .result) (a .room .now) _ _
-    (subst (λ x. Gives (answered (a .tag) (a .command .now) x) (c .before .before .before .before .before .before .answered .result)) (c .before .before .before .before .before .before .before .before .put .ensures ∙ laid-whole (a .random .now) _ (c .before .before .before .before .before .before .before .before .before .before .before .before .before .pre .0)) (c .before .before .before .before .before .before .answered .ensures))
+    (subst (λ x. Gives (answered (a .tag) (a .command .now) x)
+    (c .before .before .before .before .before .before .answered .result))
+    (c .before .before .before .before .before .before .before .before .put .ensures
+    ∙ laid-whole (a .random .now) _ (c .before .before .before .before .before .before .before .before .before .before .before .before .before .pre .0))
+    (c .before .before .before .before .before .before .answered .ensures))
     (c .before .before .before .lay .ensures)
 
 pub reply-spec : {M : Type 1} → statement M

@@ -19,14 +19,29 @@ commanded-requires c κs = sym (c .before .before .before .before .form .ensures
 
 returns : tie.Need-returns
 unfolding interIndustry
-returns c = rw (← c .before .before .before .before .before .form .ensures, c .before .before .before .before .if1 .taken, ← c .before .before .before .at .ensures, ← c .before .before .known .ensures, c .before .if2 .taken) (c .commanded .ensures)
+returns c =
+    rw (
+      ← c .before .before .before .before .before .form .ensures,
+      c .before .before .before .before .if1 .taken,
+      ← c .before .before .before .at .ensures,
+      ← c .before .before .known .ensures,
+      c .before .if2 .taken,
+    )
+    (c .commanded .ensures)
 
 refuse-requires : tie.Need-refuse-requires
 refuse-requires c κs = search needs
 
 returns-2 : tie.Need-returns-2
 unfolding interIndustry
-returns-2 c = rw (← c .before .before .before .before .before .form .ensures, c .before .before .before .before .if1 .taken, ← c .before .before .before .at .ensures, ← c .before .before .known .ensures, c .before .if2 .left) (c .refuse .ensures)
+returns-2 c =
+    rw (
+      ← c .before .before .before .before .before .form .ensures,
+      c .before .before .before .before .if1 .taken,
+      ← c .before .before .before .at .ensures,
+      ← c .before .before .known .ensures,
+      c .before .if2 .left,
+    ) (c .refuse .ensures)
 
 refuse-requires-2 : tie.Need-refuse-requires-2
 refuse-requires-2 c κs = search needs

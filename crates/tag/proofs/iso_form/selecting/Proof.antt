@@ -22,10 +22,20 @@ select-requires : tie.Need-select-requires
 select-requires c κs = search needs
 
 returns : tie.Need-returns
-returns c = rw (no-data (c .before .before .before .before .before .before .before .args .c .now) (sym (c .before .before .before .lc-of .ensures) ∙ c .before .before .if1 .taken), ← c .before .before .before .before .before .at .ensures, ← c .before .before .before .before .at2 .ensures) (c .select .ensures)
+returns c =
+    let c7 = c .before .before .before .before .before .before .before in
+    rw (
+      no-data (c7 .args .c .now) (sym (c .before .before .before .lc-of .ensures) ∙ c .before .before .if1 .taken),
+      ← c .before .before .before .before .before .at .ensures,
+      ← c .before .before .before .before .at2 .ensures,
+    )
+    (c .select .ensures)
 
 add-e : tie.Need-add-e
-add-e c = let w = data-whole (c .before .before .before .before .before .args .c .now) (c .before .before .before .before .before .pre) (omega (arith, c .before .lc-of .ensures)) in omega (arith, w, c .before .lc-of .ensures)
+add-e c =
+    let c5 = c .before .before .before .before .before in
+    let w = data-whole (c5 .args .c .now) (c5 .pre) (omega (arith, c .before .lc-of .ensures)) in
+    omega (arith, w, c .before .lc-of .ensures)
 
 sub-select : tie.Need-sub-select
 sub-select c = search needs
@@ -34,13 +44,24 @@ part-select-start : tie.Need-part-select-start
 part-select-start c = search needs
 
 part-select-end : tie.Need-part-select-end
-part-select-end c = let w = data-whole (c .before .before .before .before .before .args .c .now) (c .before .before .before .before .before .pre) (omega (arith, c .before .lc-of .ensures)) in omega (arith, w, c .before .lc-of .ensures)
+part-select-end c =
+    let c5 = c .before .before .before .before .before in
+    let w = data-whole (c5 .args .c .now) (c5 .pre) (omega (arith, c .before .lc-of .ensures)) in
+    omega (arith, w, c .before .lc-of .ensures)
 
 select-requires-2 : tie.Need-select-requires-2
 select-requires-2 c κs = search needs
 
 returns-2 : tie.Need-returns-2
-returns-2 c = let a = c .before .before .before .before .before .before .before .args in rw (← data-is (a .c .now) (c .before .before .before .lc-of .result) (c .before .before .before .lc-of .ensures), ← c .before .before .before .before .before .at .ensures, ← c .before .before .before .before .at2 .ensures) (c .select2 .ensures)
+returns-2 c =
+    let c7 = c .before .before .before .before .before .before .before in
+    let a = c7 .args in
+    rw (
+      ← data-is (a .c .now) (c .before .before .before .lc-of .result) (c .before .before .before .lc-of .ensures),
+      ← c .before .before .before .before .before .at .ensures,
+      ← c .before .before .before .before .at2 .ensures,
+    )
+    (c .select2 .ensures)
 
 pub selecting-spec : {M : Type 1} → statement M
 selecting-spec =

@@ -1,5 +1,5 @@
 -- `tag::wrapped_form::commanded` meets its contract: authentication by its key, and the others.
-use Rattle.tag.proofs.Wrapping.{gives-as}
+use Rattle.answer.proofs.Equal.{gives-as}
 use Rattle.tag.specs.Wrapped.{commanded}
 use borrow.Author.Tests.{ne-eqb}
 use mathlib.Core.Path.{refl, sym, ap}
@@ -16,8 +16,8 @@ next-requires c κs = search needs
 second-requires : tie.Need-second-requires
 second-requires c κs = search needs
 
-talk-requires : tie.Need-talk-requires
-talk-requires c κs = search needs
+from-step-5-requires : tie.Need-from-step-5-requires
+from-step-5-requires c κs = search needs
 
 returns : tie.Need-returns
 unfolding commanded
@@ -33,7 +33,13 @@ returns-3 c = let a = c .before .before .before .args in gives-as (c .second .en
 
 returns-4 : tie.Need-returns-4
 unfolding commanded
-returns-4 c = let a = c .before .before .before .args in gives-as (c .talk .ensures) (rw (ne-eqb (a .ins) 0x71 (c .before .match .rest .0 .0 .1), ne-eqb (a .ins) 0x77 (c .before .match .rest .0 .1), ne-eqb (a .ins) 0xAF (c .before .match .rest .1)) refl)
+returns-4 c =
+    let a = c .before .before .before .args in
+    gives-as (c .from-step-5 .ensures) (rw (
+      ne-eqb (a .ins) 0x71 (c .before .match .rest .0 .0 .1),
+      ne-eqb (a .ins) 0x77 (c .before .match .rest .0 .1),
+      ne-eqb (a .ins) 0xAF (c .before .match .rest .1),
+    ) refl)
 
 pub commanded-spec : {M : Type 1} → statement M
-commanded-spec = tie.close (tie.spec first-requires next-requires second-requires talk-requires returns returns-2 returns-3 returns-4)
+commanded-spec = tie.close (tie.spec first-requires next-requires second-requires from-step-5-requires returns returns-2 returns-3 returns-4)

@@ -34,14 +34,33 @@ cast-lc c = search needs
 
 returns-3 : tie.Need-returns-3
 unfolding formRight
-returns-3 c = let s = c .before .before .before .before .before .before .before .args .c .now in rw (le-leb 5 (length s) (omega arith), eq-eqb (byteAt s (length s - 1)) 0 (sym (c .before .before .before .before .at .ensures) ∙ c .before .before .before .if2 .taken), ne-eqb (length s) 5 (c .before .before .if3 .left), lt-leb 1 (byteAt s 4) (omega (arith, c .before .at2 .ensures))) refl
+returns-3 c =
+    let c7 = c .before .before .before .before .before .before .before in
+    let s = c7 .args .c .now in
+    rw (
+      le-leb 5 (length s) (omega arith),
+      eq-eqb (byteAt s (length s - 1)) 0
+          (sym (c .before .before .before .before .at .ensures) ∙ c .before .before .before .if2 .taken),
+      ne-eqb (length s) 5 (c .before .before .if3 .left),
+      lt-leb 1 (byteAt s 4) (omega (arith, c .before .at2 .ensures)),
+    ) refl
 
 add-result : tie.Need-add-result
 add-result c = search needs
 
 returns-4 : tie.Need-returns-4
 unfolding formRight
-returns-4 c = let s = c .before .before .before .before .before .before .before .args .c .now in rw (le-leb 5 (length s) (omega arith), eq-eqb (byteAt s (length s - 1)) 0 (sym (c .before .before .before .before .at .ensures) ∙ c .before .before .before .if2 .taken), ne-eqb (length s) 5 (c .before .before .if3 .left), not-zero (byteAt s 4) (λ e. c .if4 .left (c .before .at2 .ensures ∙ e)), ← c .before .at2 .ensures) refl
+returns-4 c =
+    let c7 = c .before .before .before .before .before .before .before in
+    let s = c7 .args .c .now in
+    rw (
+      le-leb 5 (length s) (omega arith),
+      eq-eqb (byteAt s (length s - 1)) 0
+          (sym (c .before .before .before .before .at .ensures) ∙ c .before .before .before .if2 .taken),
+      ne-eqb (length s) 5 (c .before .before .if3 .left),
+      not-zero (byteAt s 4) (λ e. c .if4 .left (c .before .at2 .ensures ∙ e)),
+      ← c .before .at2 .ensures,
+    ) refl
 
 returns-5 : tie.Need-returns-5
 unfolding formRight

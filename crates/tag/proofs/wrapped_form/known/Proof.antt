@@ -11,7 +11,9 @@ use Rattle.tag.proofs.wrapped_form.known.Tie as tie
 
 returns : tie.Need-returns
 unfolding oneOf
-returns c = each (λ n. true ≡ oneOf n wrappedCommands) (0x51 ∷ 0x5F ∷ 0x64 ∷ 0x71 ∷ 0x77 ∷ 0xAF ∷ 0xC4 ∷ 0xF5 ∷ []) (c .before .args .ins) (c .match .keys1) (refl, (refl, (refl, (refl, (refl, (refl, (refl, (refl, tt))))))))
+returns c =
+    each (λ n. true ≡ oneOf n wrappedCommands) (0x51 ∷ 0x5F ∷ 0x64 ∷ 0x71 ∷ 0x77 ∷ 0xAF ∷ 0xC4 ∷ 0xF5 ∷ [])
+    (c .before .args .ins) (c .match .keys1) (refl, (refl, (refl, (refl, (refl, (refl, (refl, (refl, tt))))))))
 
 returns-2 : tie.Need-returns-2
 unfolding oneOf
@@ -25,8 +27,28 @@ returns-3 c =
     (none wrappedCommands n
     (λ h.
     ⊎-elim (c .match .rest .0 .1) (c .match .rest .1)
-    (each (λ k. OneOf (0x51 ∷ 0x5F ∷ 0x64 ∷ 0x71 ∷ 0x77 ∷ 0xAF ∷ 0xC4 ∷ 0xF5 ∷ []) k ⊎ OneOf (0x8D ∷ 0xAD ∷ 0xF6 ∷ []) k) wrappedCommands n h
-    (inl (inr (inr (inr (inl refl)))), (inl (inr (inr (inr (inr (inl refl))))), (inl (inr (inr (inr (inr (inr (inl refl)))))), (inl (inr (inr (inr (inr (inr (inr (inl refl))))))), (inl (inr (inr (inl refl))), (inl (inl refl), (inl (inr (inr (inr (inr (inr (inr (inr refl))))))), (inl (inr (inl refl)), (inr (inr (inr refl)), (inr (inr (inl refl)), (inr (inl refl), tt))))))))))))))
+    (each (λ k. OneOf (0x51 ∷ 0x5F ∷ 0x64 ∷ 0x71 ∷ 0x77 ∷ 0xAF ∷ 0xC4 ∷ 0xF5 ∷ []) k ⊎ OneOf (0x8D ∷ 0xAD ∷ 0xF6 ∷ []) k) wrappedCommands n h (
+      inl (inr (inr (inr (inl refl)))),
+      (
+        inl (inr (inr (inr (inr (inl refl))))),
+        (
+          inl (inr (inr (inr (inr (inr (inl refl)))))),
+          (
+            inl (inr (inr (inr (inr (inr (inr (inl refl))))))),
+            (
+              inl (inr (inr (inl refl))),
+              (
+                inl (inl refl),
+                (
+                  inl (inr (inr (inr (inr (inr (inr (inr refl))))))),
+                  (inl (inr (inl refl)), (inr (inr (inr refl)), (inr (inr (inl refl)), (inr (inl refl), tt)))),
+                ),
+              ),
+            ),
+          ),
+        ),
+      ),
+    ))))
 
 pub known-spec : {M : Type 1} → statement M
 known-spec = tie.close (tie.spec returns returns-2 returns-3)

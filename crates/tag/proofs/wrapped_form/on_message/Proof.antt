@@ -1,5 +1,6 @@
 -- `tag::wrapped_form::on_message` meets its contract: what the message opens to.
-use Rattle.tag.proofs.Wrapping.{gives-as, data-short, on-opened, on-refused, same-opening}
+use Rattle.answer.proofs.Equal.{gives-as}
+use Rattle.tag.proofs.Wrapping.{data-short, on-opened, on-refused, same-opening}
 use Rattle.tag.specs.Wrapped.{onOpening}
 use Rattle.answer.specs.Answer.{refusal}
 use native.Mathlib.Omega.{arith}
@@ -27,7 +28,13 @@ enum-known-o : tie.Need-enum-known-o
 enum-known-o c = search needs
 
 on-data-requires : tie.Need-on-data-requires
-on-data-requires c κs = omega (arith, data-short (c .before .before .before .before .«open» .ensures) (c .before .before .before .before .before .before .before .before .before .before .pre) (omega arith) (c .before .o .given .1))
+on-data-requires c κs =
+    let c10 = c .before .before .before .before .before .before .before .before .before .before in
+    omega (
+      arith,
+      data-short (c .before .before .before .before .«open» .ensures) (c10 .pre) (omega arith)
+          (c .before .o .given .1),
+    )
 
 opened-status-requires : tie.Need-opened-status-requires
 opened-status-requires c κs = search needs
@@ -36,10 +43,33 @@ refuse-requires : tie.Need-refuse-requires
 refuse-requires c κs = search needs
 
 returns : tie.Need-returns
-returns c = let a = c .before .before .before .before .before .before .before .before .before .before .before .args in gives-as (c .on-data .ensures) (on-opened (a .tag) (a .ins) (a .m) (a .random) (c .before .before .before .before .before .«open» .ensures) (c .before .before .before .before .before .before .before .before .before .before .before .pre) (omega arith) (c .before .before .o .given .1) ∙ ap (onOpening (a .tag) (a .ins) (a .x .now) (a .m) (a .random)) (same-opening (a .tag) (a .m) (a .ins) (a .x .now) (c .before .before .before .before .before .before .before .before .before .session-of .result) (c .before .before .before .before .before .before .before .before .header .result) (c .before .before .before .before .before .before .before .has-data .result) (c .before .before .before .before .before .before .before .before .before .session-of .ensures) (c .before .before .before .before .before .before .before .before .header .ensures) (c .before .before .before .before .before .before .before .has-data .ensures)))
+returns c =
+    let c7 = c .before .before .before .before .before .before .before in
+    let c8 = c7 .before in
+    let c9 = c8 .before in
+    let c11 = c9 .before .before in
+    let a = c11 .args in
+    gives-as (c .on-data .ensures) (on-opened (a .tag) (a .ins) (a .m) (a .random)
+    (c .before .before .before .before .before .«open» .ensures) (c11 .pre) (omega arith) (c .before .before .o .given .1)
+    ∙ ap (onOpening (a .tag) (a .ins) (a .x .now) (a .m) (a .random))
+    (same-opening (a .tag) (a .m) (a .ins) (a .x .now) (c9 .session-of .result) (c8 .header .result) (c7 .has-data .result)
+    (c9 .session-of .ensures) (c8 .header .ensures) (c7 .has-data .ensures)))
 
 returns-2 : tie.Need-returns-2
-returns-2 c = let a = c .before .before .before .before .before .before .before .before .before .before .args in gives-as (c .refuse .ensures) (ap (refusal (a .tag)) (c .before .opened-status .ensures) ∙ on-refused (a .tag) (a .ins) (a .m) (a .random) (c .before .before .before .before .«open» .ensures) (c .before .before .before .before .before .before .before .before .before .before .pre) (omega arith) (c .before .before .match .keys2) ∙ ap (onOpening (a .tag) (a .ins) (a .x .now) (a .m) (a .random)) (same-opening (a .tag) (a .m) (a .ins) (a .x .now) (c .before .before .before .before .before .before .before .before .session-of .result) (c .before .before .before .before .before .before .before .header .result) (c .before .before .before .before .before .before .has-data .result) (c .before .before .before .before .before .before .before .before .session-of .ensures) (c .before .before .before .before .before .before .before .header .ensures) (c .before .before .before .before .before .before .has-data .ensures)))
+returns-2 c =
+    let c6 = c .before .before .before .before .before .before in
+    let c7 = c6 .before in
+    let c8 = c7 .before in
+    let c10 = c8 .before .before in
+    let a = c10 .args in
+    gives-as (c .refuse .ensures) (ap (refusal (a .tag)) (c .before .opened-status .ensures)
+    ∙ on-refused (a .tag) (a .ins) (a .m) (a .random) (c .before .before .before .before .«open» .ensures) (c10 .pre)
+    (omega arith) (c .before .before .match .keys2)
+    ∙ ap (onOpening (a .tag) (a .ins) (a .x .now) (a .m) (a .random))
+    (same-opening (a .tag) (a .m) (a .ins) (a .x .now) (c8 .session-of .result) (c7 .header .result) (c6 .has-data .result)
+    (c8 .session-of .ensures) (c7 .header .ensures) (c6 .has-data .ensures)))
 
 pub on-message-spec : {M : Type 1} → statement M
-on-message-spec = tie.close (tie.spec session-of-requires header-requires has-data-requires slice-aggregate-open open-requires enum-known-o on-data-requires opened-status-requires refuse-requires returns returns-2)
+on-message-spec =
+    tie.close (tie.spec session-of-requires header-requires has-data-requires slice-aggregate-open open-requires enum-known-o
+    on-data-requires opened-status-requires refuse-requires returns returns-2)
