@@ -12,13 +12,10 @@ use Rattle.settings.specs.Normal.{plainMode, freeBits, normal}
 use Rattle.settings.specs.Answers.{verdictOf, judged}
 
 pub shown : Shown
-unfolding example judged verdictOf rules restRules sdmRules positionRules found
-
-unfolding optionBits sdmFile condition rights sdmOptionsBits sdmRights metaMirrors metaOff encNeeds encSize macInput encBetween
-
-unfolding span uidSpan counterSpan piccSpan encSpan macSpan spansOf inside apart apartFrom allApart
-
-unfolding sdmOn sdmByte modeOf headOf hasUid hasCounter hasPicc hasMac hasEnc present three fields ends
-
-unfolding placesOf placesIn sizeOf number plainMode freeBits normal
+unfolding
+    example judged verdictOf rules restRules sdmRules positionRules found
+    optionBits sdmFile condition rights sdmOptionsBits sdmRights metaMirrors metaOff encNeeds encSize macInput encBetween
+    span uidSpan counterSpan piccSpan encSpan macSpan spansOf inside apart apartFrom allApart
+    sdmOn sdmByte modeOf headOf hasUid hasCounter hasPicc hasMac hasEnc present three fields ends
+    placesOf placesIn sizeOf number plainMode freeBits normal
 shown = record { normal-67 = refl; good-67 = refl; good-64 = refl; bad-63 = refl; good-240 = refl; bad-241 = refl }
