@@ -13,17 +13,19 @@ use Rattle.aes.specs.Cbc.{cbcOut, cbcBack, Chains}
 use Rattle.aes.specs.Cmac.{cmac, evenPlaces, mac}
 use Rattle.key_expansion.specs.Keys.{keyExpansion}
 use Rattle.settings.specs.declared.Head.{Head}
-use Rattle.settings.specs.declared.Normalised.{Normalised}
+use Rattle.writing.specs.declared.Normalised.{Normalised}
+use Rattle.settings.specs.declared.Places.{Places}
 use Rattle.settings.specs.declared.Reading.{Reading}
 use Rattle.settings.specs.declared.Settings.{Settings}
 use Rattle.settings.specs.declared.Status.{Status}
 use Rattle.settings.specs.declared.Told.{Told}
 use Rattle.settings.specs.declared.Verdict.{Verdict}
-use Rattle.settings.specs.declared.Written.{Written}
-use Rattle.settings.specs.Fields.{headOf, readOf}
+use Rattle.writing.specs.declared.Written.{Written}
+use Rattle.settings.specs.Fields.{headOf, readOf, present, listed}
 use Rattle.settings.specs.Spans.{readingOf}
 use Rattle.settings.specs.Rules.{meets}
-use Rattle.settings.specs.Answers.{statusWord, judged, normalised, normalRoom, readAs, writtenAs, writtenRoom}
+use Rattle.settings.specs.Answers.{statusWord, judged, readAs}
+use Rattle.writing.specs.Answers.{normalised, normalRoom, writtenAs, writtenRoom}
 use Rattle.messaging.specs.declared.Closed.{Closed}
 use Rattle.session_keys.specs.declared.Keys.{Keys}
 use Rattle.messaging.specs.declared.Mode.{Mode}
@@ -134,10 +136,6 @@ status-word-determined s = once
 pub judge-determined : (file : ℕ) (s : List ℕ) → Determined (λ (r : Verdict). r ≡ judged file s)
 judge-determined file s = once
 
-pub normalise-determined : (file : ℕ) (s room : List ℕ)
-    → DeterminedIn (λ (r : Normalised) (new : List ℕ). (r ≡ normalised (judged file s) s room) × (new ≡ normalRoom (judged file s) s room))
-normalise-determined file s room = twice
-
 -- `settings::head_of`
 pub front-determined : (s : List ℕ) → Determined (λ (r : Head). r ≡ headOf s)
 front-determined s = once
@@ -147,6 +145,20 @@ meaning-determined s = once
 
 pub read-determined : (file : ℕ) (s : List ℕ) → Determined (λ (r : Told). r ≡ readAs (judged file s) s)
 read-determined file s = once
+
+pub present-fields-determined : (h : Head) → Determined (λ (r : List Bool). r ≡ present h)
+present-fields-determined h = once
+
+pub in-order-determined : (p : Places) → Determined (λ (r : List ℕ). r ≡ listed p)
+in-order-determined p = once
+
+pub meets-determined : (file : ℕ) (r : Settings) → Determined (λ (x : Bool). x ≡ meets file r)
+meets-determined file r = once
+
+-- ---- writing
+pub normalise-determined : (file : ℕ) (s room : List ℕ)
+    → DeterminedIn (λ (r : Normalised) (new : List ℕ). (r ≡ normalised (judged file s) s room) × (new ≡ normalRoom (judged file s) s room))
+normalise-determined file s room = twice
 
 pub write-determined : (file : ℕ) (r : Settings) (room : List ℕ)
     → DeterminedIn (λ (w : Written) (new : List ℕ). (w ≡ writtenAs (meets file r) r room) × (new ≡ writtenRoom (meets file r) r room))

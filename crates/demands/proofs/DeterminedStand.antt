@@ -4,7 +4,8 @@ use mathlib.Core.Bool.{Bool}
 use mathlib.Core.List.{List}
 use mathlib.Core.Path.{_≡_}
 use Prim.Native.Nat.{ℕ}
-use Rattle.settings.specs.Answers.{judged, normalised, normalRoom}
+use Rattle.settings.specs.Answers.{judged}
+use Rattle.writing.specs.Answers.{normalised, normalRoom}
 use Rattle.state.specs.declared.Tag.{Tag}
 use Rattle.image.specs.declared.Read.{Read}
 use Rattle.image.specs.declared.Stored.{Stored}

@@ -19,8 +19,8 @@ use Rattle.messaging.specs.Command.{partRight, lengthRight, checked, opening}
 use Rattle.messaging.specs.Reply.{closed, closedLength, overlong}
 use Rattle.settings.specs.declared.Verdict.the-variants.{Good}
 use Rattle.settings.specs.Normal.{normal}
-use Rattle.settings.proofs.NormalForm.{normal-length}
-use Rattle.settings.proofs.Mirrors.{good-length}
+use Rattle.meanings.proofs.NormalForm.{normal-length}
+use Rattle.meanings.proofs.Mirrors.{good-length}
 use Rattle.state.specs.declared.Access.the-variants.{In}
 use Rattle.state.specs.declared.Tag.{Tag}
 use Rattle.state.specs.State.{sizeOf, rulesOf, readingIn, noLive, noPending, endedOf, filed, placed, talking, tapped}

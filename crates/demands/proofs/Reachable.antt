@@ -27,11 +27,11 @@ use Rattle.settings.specs.declared.Settings.{Settings}
 use Rattle.settings.specs.declared.Verdict.the-variants.{Good}
 use Rattle.settings.specs.Answers.{verdictOf, judged}
 use Rattle.settings.specs.Fields.{sdmOn, sdmByte, modeOf, headOf, present, ends, sizeOf, readOf, stringOf}
-use Rattle.settings.specs.Rules.{found, optionBits, sdmFile, condition, rights, rules, meets}
+use Rattle.settings.specs.Rules.{found, optionBits, sdmFile, condition, rights, restRules, rules, meets}
 use Rattle.settings.specs.Normal.{plainMode, freeBits, normal}
 use Rattle.settings.specs.Spans.{readingOf}
-use Rattle.settings.proofs.Mirrors.{good-length}
-use Rattle.settings.proofs.OneMeaning.{one-string, string-bytes}
+use Rattle.meanings.proofs.Mirrors.{good-length}
+use Rattle.meanings.proofs.OneMeaning.{one-string, string-bytes}
 use Rattle.state.specs.declared.Access.{Access}
 use Rattle.state.specs.declared.Access.the-variants.{In, Never as NeverIn, Denied as DeniedIn}
 use Rattle.state.specs.declared.Grant.the-variants.{ByKey, ByTap, Free, Never, Denied}
@@ -277,7 +277,7 @@ module _ (uid : List ℕ) (u : rightUid uid ≡ true) where
       }
 
   pub ready-samples : Ready (sample uid true 0xE0) 2 Full × Ready (sample uid false 0xEE) 2 Plain
-  unfolding sample rightUid soundTag rulesSound keysSound aloneSound levelSound slotOf rulesOf readingIn noPending judged verdictOf rules found optionBits sdmFile condition rights sdmOn sdmByte modeOf headOf present ends sizeOf readOf readingOf plainMode freeBits normal same accessFor changeGrant granted
+  unfolding sample rightUid soundTag rulesSound keysSound aloneSound levelSound slotOf rulesOf readingIn noPending judged verdictOf rules restRules found optionBits sdmFile condition rights sdmOn sdmByte modeOf headOf present ends sizeOf readOf readingOf plainMode freeBits normal same accessFor changeGrant granted
   ready-samples =
       let four = and-right (eqb (length uid) 7) (eqb (byteAt uid 0) 4) u in
       (sample-ready true 0xE0 Full (rw four refl) refl, sample-ready false 0xEE Plain (rw four refl) refl)

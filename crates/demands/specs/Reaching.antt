@@ -15,7 +15,7 @@ use Rattle.messaging.specs.Reply.{closed}
 use Rattle.settings.specs.declared.Settings.{Settings}
 use Rattle.settings.specs.Fields.{readOf, stringOf}
 use Rattle.settings.specs.Normal.{normal}
-use Rattle.settings.proofs.OneMeaning.{OneString}
+use Rattle.meanings.specs.Meaning.{OneString}
 use Rattle.state.specs.declared.Access.the-variants.{In}
 use Rattle.state.specs.declared.Tag.{Tag}
 use Rattle.state.specs.State.{rulesOf, readingIn}

@@ -14,11 +14,12 @@ use Rattle.messaging.specs.declared.Mode.{Mode}
 use Rattle.settings.specs.declared.Status.{Status}
 use Rattle.settings.specs.declared.Verdict.{Verdict}
 use Rattle.settings.specs.declared.Verdict.the-variants.{Good, Refused}
-use Rattle.settings.specs.declared.Normalised.the-variants.{Normal, BadString, RoomTooSmall}
-use Rattle.settings.specs.Answers.{judged, normalised, statusWord}
+use Rattle.writing.specs.declared.Normalised.the-variants.{Normal, BadString, RoomTooSmall}
+use Rattle.settings.specs.Answers.{judged, statusWord}
+use Rattle.writing.specs.Answers.{normalised}
 use Rattle.settings.specs.Normal.{normal}
-use Rattle.settings.proofs.NormalForm.{normal-length}
-use Rattle.settings.proofs.Mirrors.{good-length}
+use Rattle.meanings.proofs.NormalForm.{normal-length}
+use Rattle.meanings.proofs.Mirrors.{good-length}
 use Rattle.state.specs.declared.Files.{Files}
 use Rattle.state.specs.declared.Tag.{Tag}
 use Rattle.state.specs.State.{slotOf}

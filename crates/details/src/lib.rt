@@ -11,10 +11,10 @@ ghost use Rattle.details.specs.Details.{cardUid, settingsReply, atFront,
 use answer::Done;
 use answer::Part;
 use messaging::Mode;
-use settings::Normalised;
 use state::Files;
 use state::Tag;
 use state::Tapping;
+use writing::Normalised;
 
 // GetCardUID.
 pub fn card_uid(tag: Tag) -> Done
@@ -142,7 +142,7 @@ pub fn change_settings(tag: Tag, n: u8, p: &[u8], m: Mode) -> Done
     ensures { λ r. ⌜ Gives (changedSettings tag n (now (p .entry)) m) r ⌝ }
 {
     let mut text = [0u8; 27];
-    let a = settings::normalise(n, p, &mut text);
+    let a = writing::normalise(n, p, &mut text);
     match a {
         Normalised::BadString(e) => answer::refuse(tag, settings::status_word(e)),
         Normalised::RoomTooSmall => answer::refuse(tag, 0x917E),

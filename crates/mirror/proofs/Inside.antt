@@ -13,7 +13,8 @@ use Rattle.settings.specs.declared.Verdict.the-variants.{Good}
 use Rattle.settings.specs.Fields.{readOf}
 use Rattle.settings.specs.Spans.{spansOf, readingOf, endOf, inside}
 use Rattle.settings.specs.Answers.{judged}
-use Rattle.settings.proofs.Mirrors.{Placed, good-placed}
+use Rattle.meanings.specs.Placing.{Placed}
+use Rattle.meanings.proofs.Mirrors.{good-placed}
 use Rattle.mirror.specs.declared.Mirror.{Mirror}
 use Rattle.mirror.specs.Mirrors.{dynamicData, allInside, laidOf}
 

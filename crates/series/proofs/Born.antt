@@ -9,7 +9,7 @@ use Rattle.base.specs.Bytes.{byteAt, same}
 use Rattle.base.proofs.Bytes.{and-right}
 use Rattle.settings.specs.Fields.{sdmOn, sdmByte, modeOf, headOf, present, ends, sizeOf, readOf}
 use Rattle.settings.specs.Spans.{readingOf}
-use Rattle.settings.specs.Rules.{found, optionBits, sdmFile, condition, rights, rules}
+use Rattle.settings.specs.Rules.{found, optionBits, sdmFile, condition, rights, restRules, rules}
 use Rattle.settings.specs.Normal.{plainMode, freeBits, normal}
 use Rattle.settings.specs.Answers.{verdictOf, judged}
 use Rattle.state.specs.State.{slotOf, rulesOf, readingIn, noLive, noPending}
@@ -23,7 +23,7 @@ unfolding freshTag deliveredFiles
 fresh-slots uid = record { rules = refl; lens = refl }
 
 pub fresh-sound : (uid : List ℕ) → rightUid uid ≡ true → soundTag (freshTag uid) ≡ true
-unfolding rightUid soundTag rulesSound keysSound aloneSound levelSound freshTag deliveredFiles slotOf rulesOf readingIn noLive noPending judged verdictOf rules found optionBits sdmFile condition rights sdmOn sdmByte modeOf headOf present ends sizeOf readOf readingOf plainMode freeBits normal same
+unfolding rightUid soundTag rulesSound keysSound aloneSound levelSound freshTag deliveredFiles slotOf rulesOf readingIn noLive noPending judged verdictOf rules restRules found optionBits sdmFile condition rights sdmOn sdmByte modeOf headOf present ends sizeOf readOf readingOf plainMode freeBits normal same
 fresh-sound uid e = rw (and-right (eqb (length uid) 7) (eqb (byteAt uid 0) 4) e) refl
 
 pub fresh-series : (uid : List ℕ) → rightUid uid ≡ true → (asked : List Asked) → soundTag (after (freshTag uid) asked) ≡ true

@@ -12,7 +12,8 @@ use Rattle.settings.specs.Fields.{sdmOn, sdmByte, modeOf, headOf, hasUid, hasCo
 use Rattle.settings.specs.Spans.{span, uidSpan, counterSpan, piccSpan, encSpan, macSpan, readingOf}
 use Rattle.settings.specs.Normal.{normal}
 use Rattle.settings.specs.Answers.{judged}
-use Rattle.settings.proofs.Examples.{example, shown}
+use Rattle.meanings.specs.Worked.{example}
+use Rattle.meanings.proofs.Examples.{shown}
 use Rattle.state.specs.State.{startOf, sizeOf as fileSize, fileOf, slotOf, rulesOf, readingIn, noLive, noPending, quieted, endedOf, placed, talking, tapped}
 use Rattle.state.specs.Fresh.{container, deliveredFiles, freshTag}
 use Rattle.state.specs.Access.{granted, readGrant, fileMode, accessFor, accessStatus, grantStatus}

@@ -20,9 +20,9 @@ use Rattle.settings.specs.Normal.{normal}
 use Rattle.settings.specs.Fields.{readOf, headOf, sdmOn}
 use Rattle.settings.specs.Spans.{readingOf}
 use Rattle.settings.specs.Rules.{sdmFile}
-use Rattle.settings.proofs.Kept.{front-kept}
-use Rattle.settings.proofs.NormalForm.{normal-length, normal-twice, normal-good}
-use Rattle.settings.proofs.Mirrors.{good-length}
+use Rattle.meanings.proofs.Kept.{front-kept}
+use Rattle.meanings.proofs.NormalForm.{normal-length, normal-twice, normal-good}
+use Rattle.meanings.proofs.Mirrors.{good-length}
 use Rattle.state.specs.declared.Files.{Files}
 use Rattle.state.specs.declared.Tag.{Tag}
 use Rattle.mirror.specs.Mirrors.{laidOf}

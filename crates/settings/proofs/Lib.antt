@@ -1,13 +1,3 @@
-pub mod Bits
-pub mod Examples
+pub mod Cursor
 pub mod Found
-pub mod Kept
-pub mod Laying
-pub mod Meets
-pub mod Mirrors
-pub mod NormalForm
-pub mod OneMeaning
 pub mod Pairs
-pub mod RoundTrip
-pub mod Small
-pub mod Walk

@@ -12,7 +12,10 @@ use Rattle.settings.specs.declared.Settings.{Settings}
 use Rattle.settings.specs.declared.Part.{Part}
 use Rattle.settings.specs.declared.Part.the-variants.{OptionByte, RightsBytes, SdmOptionsByte, SdmRightsBytes, Whole}
 use Rattle.settings.specs.declared.Check.{Check}
-use Rattle.settings.specs.declared.Check.the-variants.{OptionBits, SdmFile, Rights, SdmOptionsBits, SdmRights, MetaMirrors, MetaOff, EncNeeds, EncSize, UidInside, CounterInside, PiccInside, EncInside, MacInside, Shared, MacInput, EncBetween}
+use Rattle.settings.specs.declared.Check.the-variants.{OptionBits, SdmFile, Rights, SdmOptionsBits, SdmRights}
+use Rattle.settings.specs.declared.Check.the-variants.{MetaMirrors, MetaOff, EncNeeds, EncSize}
+use Rattle.settings.specs.declared.Check.the-variants.{UidInside, CounterInside, PiccInside, EncInside, MacInside}
+use Rattle.settings.specs.declared.Check.the-variants.{Shared, MacInput, EncBetween}
 use Rattle.settings.specs.declared.Finding.{Finding}
 use Rattle.settings.specs.declared.Finding.the-variants.{Kept, Missing, Wrong}
 use Rattle.settings.specs.Fields.{sdmOn, headOf, hasMac, hasEnc, present, listed, placesIn, sizeOf}
@@ -110,6 +113,10 @@ sdmRules s h =
     ∷ there Whole (eqb (length s) (sizeOf h))
     ∷ positionRules (record { head = h; places = placesIn s h })
 
+-- what follows the rights: with SDM on its rules, else the whole length
+unfoldable pub restRules : List ℕ → Head → List Rule
+restRules s h = pick (sdmOn s) (sdmRules s h) (there Whole (eqb (length s) (sizeOf h)) ∷ [])
+
 -- of a string for file n: FileOption, rights, and the rest by SDM
 unfoldable pub rules : ℕ → List ℕ → List Rule
 rules n s =
@@ -118,7 +125,7 @@ rules n s =
     ∷ right SdmFile (sdmFile n (headOf s))
     ∷ there RightsBytes (leb 3 (length s))
     ∷ right Rights (rights (headOf s))
-    ∷ pick (sdmOn s) (sdmRules s (headOf s)) (there Whole (eqb (length s) (sizeOf (headOf s))) ∷ [])
+    ∷ restRules s (headOf s)
 
 -- ---- the same rules of a record
 

@@ -2,7 +2,7 @@
 ghost use mathlib.Core.Path.{_≡_};
 ghost use Prim.Native.Nat.{_<_, _≤_, _+_};
 ghost use Rattle.base.specs.Decide.{pick};
-ghost use Rattle.settings.specs.Fields.{three, after, placesIn, readOf, sizeOf, present, ends, listed};
+ghost use Rattle.settings.specs.Fields.{three, after, fields, placesOf, placesIn, readOf, sizeOf, present, ends, listed};
 ghost use Rattle.settings.specs.Rules.{fieldFits, fieldsFit};
 use super::Head;
 use super::Places;
@@ -39,7 +39,7 @@ fn field(s: &[u8], at: usize, present: bool) -> u32
 }
 
 // Where the next field begins.
-pub fn step(at: usize, present: bool) -> usize
+fn step(at: usize, present: bool) -> usize
     requires { ⌜ at ≤ 27 ⌝ }
     ensures { λ r. ⌜ (r ≡ after at present) × (r ≤ at + 3) ⌝ }
 {
@@ -49,31 +49,73 @@ pub fn step(at: usize, present: bool) -> usize
     at
 }
 
+// The numbers of the fields, in order.
+fn numbers(s: &[u8], there: [bool; 8]) -> [u32; 8]
+    ensures { λ r. ⌜ r ≡ fields (now (s .entry)) 6 there ⌝ }
+{
+    let mut read = [0u32; 8];
+    let mut at: usize = 6;
+    let mut i: usize = 0;
+    while i < 8 {
+        let p = there[i];
+        read[i] = field(s, at, p);
+        let next = step(at, p);
+        at = next;
+        i += 1;
+    }
+    read
+}
+
+// Where the fields end.
+fn end_of_fields(there: [bool; 8]) -> usize
+    ensures { λ r. ⌜ r ≡ ends 6 there ⌝ }
+{
+    let mut at: usize = 6;
+    let mut i: usize = 0;
+    while i < 8 {
+        let next = step(at, there[i]);
+        at = next;
+        i += 1;
+    }
+    at
+}
+
+// Eight numbers by name.
+fn by_name(v: [u32; 8]) -> Places
+    ensures { λ r. ⌜ r ≡ placesOf v ⌝ }
+{
+    Places {
+        uid: v[0],
+        counter: v[1],
+        picc: v[2],
+        input: v[3],
+        enc: v[4],
+        size: v[5],
+        mac: v[6],
+        limit: v[7],
+    }
+}
+
+// The fields behind in the order of Table 69.
+pub fn in_order(p: Places) -> [u32; 8]
+    ensures { λ r. ⌜ r ≡ listed p ⌝ }
+{
+    [
+        p.uid,
+        p.counter,
+        p.picc,
+        p.input,
+        p.enc,
+        p.size,
+        p.mac,
+        p.limit,
+    ]
+}
+
 pub fn places(s: &[u8], h: Head) -> Places
     ensures { λ r. ⌜ r ≡ placesIn (now (s .entry)) h ⌝ }
 {
-    let uid = front::has_uid(h);
-    let counter = front::has_counter(h);
-    let picc = front::has_picc(h);
-    let mac = front::has_mac(h);
-    let enc = front::has_enc(h);
-    let a1 = step(6, uid);
-    let a2 = step(a1, counter);
-    let a3 = step(a2, picc);
-    let a4 = step(a3, mac);
-    let a5 = step(a4, enc);
-    let a6 = step(a5, enc);
-    let a7 = step(a6, mac);
-    Places {
-        uid: field(s, 6, uid),
-        counter: field(s, a1, counter),
-        picc: field(s, a2, picc),
-        input: field(s, a3, mac),
-        enc: field(s, a4, enc),
-        size: field(s, a5, enc),
-        mac: field(s, a6, mac),
-        limit: field(s, a7, h.limit),
-    }
+    by_name(numbers(s, front::present_fields(h)))
 }
 
 // How long a string with these fields in front is.
@@ -81,24 +123,9 @@ pub fn size_of(h: Head) -> usize
     ensures { λ r. ⌜ r ≡ sizeOf h ⌝ }
 {
     if h.sdm {
-        return sdm_size(h);
+        return end_of_fields(front::present_fields(h));
     }
     3
-}
-
-fn sdm_size(h: Head) -> usize
-    ensures { λ r. ⌜ r ≡ ends 6 (present h) ⌝ }
-{
-    let mac = front::has_mac(h);
-    let enc = front::has_enc(h);
-    let a1 = step(6, front::has_uid(h));
-    let a2 = step(a1, front::has_counter(h));
-    let a3 = step(a2, front::has_picc(h));
-    let a4 = step(a3, mac);
-    let a5 = step(a4, enc);
-    let a6 = step(a5, enc);
-    let a7 = step(a6, mac);
-    step(a7, h.limit)
 }
 
 pub fn settings(s: &[u8]) -> Settings
@@ -119,23 +146,22 @@ fn field_fits(present: bool, v: u32) -> bool
     v == 0
 }
 
+// Whether every field fits.
+fn all_fit(there: [bool; 8], v: [u32; 8]) -> bool
+    ensures { λ r. ⌜ r ≡ fieldsFit there v ⌝ }
+{
+    let mut fit = true;
+    let mut i: usize = 0;
+    while i < 8 {
+        let next = truth::both(fit, field_fits(there[i], v[i]));
+        fit = next;
+        i += 1;
+    }
+    fit
+}
+
 pub fn fields_fit(r: Settings) -> bool
     ensures { λ x. ⌜ x ≡ fieldsFit (present (r .head)) (listed (r .places)) ⌝ }
 {
-    let h = r.head;
-    let p = r.places;
-    let mac = front::has_mac(h);
-    let enc = front::has_enc(h);
-    let last = truth::both(
-        field_fits(mac, p.mac),
-        truth::both(field_fits(h.limit, p.limit), true),
-    );
-    let inner = truth::both(
-        field_fits(enc, p.enc),
-        truth::both(field_fits(enc, p.size), last),
-    );
-    let signed = truth::both(field_fits(mac, p.input), inner);
-    let picc = truth::both(field_fits(front::has_picc(h), p.picc), signed);
-    let counter = truth::both(field_fits(front::has_counter(h), p.counter), picc);
-    truth::both(field_fits(front::has_uid(h), p.uid), counter)
+    all_fit(front::present_fields(r.head), in_order(r.places))
 }

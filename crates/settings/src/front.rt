@@ -1,6 +1,6 @@
 // The fields in front of a string, and which of those behind are present.
 ghost use mathlib.Core.Path.{_≡_};
-ghost use Rattle.settings.specs.Fields.{sdmOn, sdmByte, modeOf, headOf, hasUid, hasCounter, hasPicc, hasMac, hasEnc};
+ghost use Rattle.settings.specs.Fields.{sdmOn, sdmByte, modeOf, headOf, hasUid, hasCounter, hasPicc, hasMac, hasEnc, present};
 use super::Head;
 use super::truth;
 
@@ -82,4 +82,16 @@ pub fn has_enc(h: Head) -> bool
     ensures { λ r. ⌜ r ≡ hasEnc h ⌝ }
 {
     truth::both(h.enc, has_mac(h))
+}
+
+// Which of the fields behind are present, in the order of Table 69.
+pub fn present_fields(h: Head) -> [bool; 8]
+    ensures { λ r. ⌜ r ≡ present h ⌝ }
+{
+    let mac = has_mac(h);
+    let enc = has_enc(h);
+    let uid = has_uid(h);
+    let counter = has_counter(h);
+    let picc = has_picc(h);
+    [uid, counter, picc, mac, enc, enc, mac, h.limit]
 }

@@ -1,18 +1,19 @@
-// Settings strings (Tables 69 and 73): judged, normalised, read and written, without any cryptography.
+// Settings strings (Tables 69 and 73): judged and read, without any cryptography.
 ghost use mathlib.Core.Path.{_≡_};
 ghost use Rattle.settings.specs.Fields.{readOf};
 ghost use Rattle.settings.specs.Spans.{readingOf};
-ghost use Rattle.settings.specs.Rules.{meets};
-ghost use Rattle.settings.specs.Answers.{statusWord, judged, normalised, normalRoom, readAs, writtenAs, writtenRoom};
+ghost use Rattle.settings.specs.Answers.{statusWord, judged, readAs};
 
 mod fields;
 mod front;
 mod rules;
 mod spans;
-mod text;
 mod truth;
 
+pub use fields::in_order;
 pub use front::head as head_of;
+pub use front::present_fields;
+pub use rules::record_meets as meets;
 
 // The fields in front: CommMode (0 Plain, 1 MAC, 3 Full), the rights Read, Write, ReadWrite and Change, SDM, the four
 // options, SDMMetaRead, SDMFileRead and SDMCtrRet. With SDM off the parts of SDM are 0.
@@ -116,24 +117,10 @@ pub enum Finding {
     Wrong(Check),
 }
 
-// What normalising answers: the length of the normal string, or why there is none.
-pub enum Normalised {
-    Normal(usize),
-    BadString(Status),
-    RoomTooSmall,
-}
-
 // What reading answers.
 pub enum Told {
     Means(Reading),
     Unread(Status),
-}
-
-// What writing a record answers: the length of its string, or why there is none.
-pub enum Written {
-    Laid(usize),
-    BadRecord,
-    NoRoom,
 }
 
 // The number of a status.
@@ -153,18 +140,6 @@ pub fn judge(file: u8, s: &[u8]) -> Verdict
     rules::verdict(rules::broken(file, s))
 }
 
-// The normal string at the front of the room, with its length. A refusal leaves the room.
-pub fn normalise(file: u8, s: &[u8], room: &mut [u8]) -> Normalised
-    ensures answer { λ r. ⌜ r ≡ normalised (judged file (now (s .entry))) (now (s .entry)) (now (room .entry)) ⌝ }
-    ensures left { λ r. ⌜ now (room .exit) ≡ normalRoom (judged file (now (s .entry))) (now (s .entry)) (now (room .entry)) ⌝ }
-{
-    let v = judge(file, s);
-    match v {
-        Verdict::Good => text::lay_normal(s, room),
-        Verdict::Refused(e) => Normalised::BadString(e),
-    }
-}
-
 // What the bytes mean, whether the string is good or not: 0 stands for a byte that is not there.
 pub fn meaning(s: &[u8]) -> Reading
     ensures { λ r. ⌜ r ≡ readingOf (readOf (now (s .entry))) ⌝ }
@@ -181,16 +156,4 @@ pub fn read(file: u8, s: &[u8]) -> Told
         Verdict::Good => Told::Means(meaning(s)),
         Verdict::Refused(e) => Told::Unread(e),
     }
-}
-
-// The normal string of a record at the front of the room, with its length. A refusal leaves the room.
-pub fn write(file: u8, r: Settings, room: &mut [u8]) -> Written
-    ensures answer { λ w. ⌜ w ≡ writtenAs (meets file r) r (now (room .entry)) ⌝ }
-    ensures left { λ w. ⌜ now (room .exit) ≡ writtenRoom (meets file r) r (now (room .entry)) ⌝ }
-{
-    let ok = rules::record_meets(file, r);
-    if ok {
-        return text::lay_record(r, room);
-    }
-    Written::BadRecord
 }

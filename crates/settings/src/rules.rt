@@ -1,13 +1,16 @@
 // The rules in 01's order. The first that does not hold answers.
 ghost use mathlib.Core.Path.{_≡_};
-ghost use Rattle.settings.specs.Rules.{found, optionBits, sdmFile, condition, rights, sdmOptionsBits, sdmRights, metaMirrors, metaOff, encNeeds, encSize, macInput, encBetween, positionRules, sdmRules, rules, kept, sdmMeets, sdmAbsent, sdmPart, modes, meets};
+ghost use Rattle.base.specs.Decide.{pick};
+ghost use Rattle.settings.specs.declared.Finding.the-variants.{Missing, Wrong};
+ghost use Rattle.settings.specs.Rules.{optionBits, sdmFile, condition, rights, sdmOptionsBits, sdmRights};
+ghost use Rattle.settings.specs.Rules.{metaMirrors, metaOff, encNeeds, encSize, macInput, encBetween};
+ghost use Rattle.settings.specs.Rules.{found, positionRules, sdmRules, restRules, rules};
+ghost use Rattle.settings.specs.Rules.{kept, sdmMeets, sdmAbsent, sdmPart, modes, meets};
 ghost use Rattle.settings.specs.Answers.{verdictOf};
 use super::Check;
 use super::Finding;
 use super::Head;
 use super::Part;
-use super::Places;
-use super::Reading;
 use super::Settings;
 use super::Status;
 use super::Verdict;
@@ -114,104 +117,84 @@ fn enc_between(r: Settings) -> bool
     truth::either(truth::negate(front::has_enc(r.head)), between)
 }
 
+// A part that must be there whole, before the rest.
+fn there(part: Part, whole: bool, rest: Finding) -> Finding
+    ensures { λ r. ⌜ r ≡ pick whole rest (Missing part) ⌝ }
+{
+    if whole {
+        return rest;
+    }
+    Finding::Missing(part)
+}
+
+// A test that must hold, before the rest.
+fn right(check: Check, holds: bool, rest: Finding) -> Finding
+    ensures { λ r. ⌜ r ≡ pick holds rest (Wrong check) ⌝ }
+{
+    if holds {
+        return rest;
+    }
+    Finding::Wrong(check)
+}
+
+// Positions. The last rule comes first, since each goes before the rest.
 fn positions(r: Settings) -> Finding
     ensures { λ x. ⌜ x ≡ found (positionRules r) ⌝ }
 {
-    if !enc_size(r) {
-        return Finding::Wrong(Check::EncSize);
-    }
-    let x = spans::with_spans(r);
-    let uid = x.uid;
-    let counter = x.counter;
-    let picc = x.picc;
-    let enc = x.enc;
-    let mac = x.mac;
-    if !spans::is_inside(uid) {
-        return Finding::Wrong(Check::UidInside);
-    }
-    if !spans::is_inside(counter) {
-        return Finding::Wrong(Check::CounterInside);
-    }
-    if !spans::is_inside(picc) {
-        return Finding::Wrong(Check::PiccInside);
-    }
-    if !spans::is_inside(enc) {
-        return Finding::Wrong(Check::EncInside);
-    }
-    if !spans::is_inside(mac) {
-        return Finding::Wrong(Check::MacInside);
-    }
+    let uid = spans::uid_span(r);
+    let counter = spans::counter_span(r);
+    let picc = spans::picc_span(r);
+    let enc = spans::enc_span(r);
+    let mac = spans::mac_span(r);
     let all = [uid, counter, picc, enc, mac];
-    if !spans::all_apart(all) {
-        return Finding::Wrong(Check::Shared);
-    }
-    if !mac_input(r) {
-        return Finding::Wrong(Check::MacInput);
-    }
-    if !enc_between(r) {
-        return Finding::Wrong(Check::EncBetween);
-    }
-    Finding::Kept
+    let f9 = right(Check::EncBetween, enc_between(r), Finding::Kept);
+    let f8 = right(Check::MacInput, mac_input(r), f9);
+    let f7 = right(Check::Shared, spans::all_apart(all), f8);
+    let f6 = right(Check::MacInside, spans::is_inside(mac), f7);
+    let f5 = right(Check::EncInside, spans::is_inside(enc), f6);
+    let f4 = right(Check::PiccInside, spans::is_inside(picc), f5);
+    let f3 = right(Check::CounterInside, spans::is_inside(counter), f4);
+    let f2 = right(Check::UidInside, spans::is_inside(uid), f3);
+    right(Check::EncSize, enc_size(r), f2)
 }
 
+// With SDM on: options, SDM rights, the whole length, positions.
 fn sdm_broken(s: &[u8], h: Head) -> Finding
     ensures { λ r. ⌜ r ≡ found (sdmRules (now (s .entry)) h) ⌝ }
 {
-    if s.len() < 4 {
-        return Finding::Missing(Part::SdmOptionsByte);
-    }
-    if !sdm_options_bits(base::at(s, 3)) {
-        return Finding::Wrong(Check::SdmOptionsBits);
-    }
-    if s.len() < 6 {
-        return Finding::Missing(Part::SdmRightsBytes);
-    }
-    if !sdm_rights(h) {
-        return Finding::Wrong(Check::SdmRights);
-    }
-    if !meta_mirrors(h) {
-        return Finding::Wrong(Check::MetaMirrors);
-    }
-    if !meta_off(h) {
-        return Finding::Wrong(Check::MetaOff);
-    }
-    if !enc_needs(h) {
-        return Finding::Wrong(Check::EncNeeds);
-    }
-    if s.len() != fields::size_of(h) {
-        return Finding::Missing(Part::Whole);
-    }
     let p = fields::places(s, h);
-    positions(Settings { head: h, places: p })
+    let placed = positions(Settings { head: h, places: p });
+    let f8 = there(Part::Whole, s.len() == fields::size_of(h), placed);
+    let f7 = right(Check::EncNeeds, enc_needs(h), f8);
+    let f6 = right(Check::MetaOff, meta_off(h), f7);
+    let f5 = right(Check::MetaMirrors, meta_mirrors(h), f6);
+    let f4 = right(Check::SdmRights, sdm_rights(h), f5);
+    let f3 = there(Part::SdmRightsBytes, 6 <= s.len(), f4);
+    let f2 = right(Check::SdmOptionsBits, sdm_options_bits(base::at(s, 3)), f3);
+    there(Part::SdmOptionsByte, 4 <= s.len(), f2)
+}
+
+// What follows the rights.
+fn rest_broken(s: &[u8], h: Head) -> Finding
+    ensures { λ r. ⌜ r ≡ found (restRules (now (s .entry)) h) ⌝ }
+{
+    if front::sdm_on(s) {
+        return sdm_broken(s, h);
+    }
+    there(Part::Whole, s.len() == fields::size_of(h), Finding::Kept)
 }
 
 // The first rule that a string breaks.
 pub fn broken(file: u8, s: &[u8]) -> Finding
     ensures { λ r. ⌜ r ≡ found (rules file (now (s .entry))) ⌝ }
 {
-    if s.len() < 1 {
-        return Finding::Missing(Part::OptionByte);
-    }
-    if !option_bits(base::at(s, 0)) {
-        return Finding::Wrong(Check::OptionBits);
-    }
     let h = front::head(s);
-    if !sdm_file(file, h) {
-        return Finding::Wrong(Check::SdmFile);
-    }
-    if s.len() < 3 {
-        return Finding::Missing(Part::RightsBytes);
-    }
-    if !rights_kept(h) {
-        return Finding::Wrong(Check::Rights);
-    }
-    if front::sdm_on(s) {
-        return sdm_broken(s, h);
-    }
-    if s.len() != fields::size_of(h) {
-        return Finding::Missing(Part::Whole);
-    }
-    Finding::Kept
+    let f6 = rest_broken(s, h);
+    let f5 = right(Check::Rights, rights_kept(h), f6);
+    let f4 = there(Part::RightsBytes, 3 <= s.len(), f5);
+    let f3 = right(Check::SdmFile, sdm_file(file, h), f4);
+    let f2 = right(Check::OptionBits, option_bits(base::at(s, 0)), f3);
+    there(Part::OptionByte, 1 <= s.len(), f2)
 }
 
 fn is_kept(f: Finding) -> bool

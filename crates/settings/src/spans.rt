@@ -1,7 +1,7 @@
 // The spans of the mirrors.
 ghost use mathlib.Core.Path.{_≡_};
 ghost use Prim.Native.Nat.{_<_, _^_};
-ghost use Rattle.settings.specs.Spans.{span, readingOf, endOf, inside, apart, allApart};
+ghost use Rattle.settings.specs.Spans.{span, uidSpan, counterSpan, piccSpan, encSpan, macSpan, readingOf, endOf, inside, apart, allApart};
 use super::Reading;
 use super::Settings;
 use super::Span;
@@ -18,23 +18,46 @@ fn span_of(present: bool, at: u32, n: u32) -> Span
     }
 }
 
+pub fn uid_span(r: Settings) -> Span
+    ensures { λ x. ⌜ x ≡ uidSpan r ⌝ }
+{
+    span_of(front::has_uid(r.head), r.places.uid, 14)
+}
+
+pub fn counter_span(r: Settings) -> Span
+    ensures { λ x. ⌜ x ≡ counterSpan r ⌝ }
+{
+    span_of(front::has_counter(r.head), r.places.counter, 6)
+}
+
+pub fn picc_span(r: Settings) -> Span
+    ensures { λ x. ⌜ x ≡ piccSpan r ⌝ }
+{
+    span_of(front::has_picc(r.head), r.places.picc, 32)
+}
+
+pub fn enc_span(r: Settings) -> Span
+    ensures { λ x. ⌜ x ≡ encSpan r ⌝ }
+{
+    span_of(front::has_enc(r.head), r.places.enc, r.places.size)
+}
+
+pub fn mac_span(r: Settings) -> Span
+    ensures { λ x. ⌜ x ≡ macSpan r ⌝ }
+{
+    span_of(front::has_mac(r.head), r.places.mac, 16)
+}
+
 pub fn with_spans(r: Settings) -> Reading
     ensures { λ x. ⌜ x ≡ readingOf r ⌝ }
 {
-    let h = r.head;
-    let p = r.places;
-    let uid = span_of(front::has_uid(h), p.uid, 14);
-    let counter = span_of(front::has_counter(h), p.counter, 6);
-    let picc = span_of(front::has_picc(h), p.picc, 32);
-    let enc = span_of(front::has_enc(h), p.enc, p.size);
-    let mac = span_of(front::has_mac(h), p.mac, 16);
     Reading {
         settings: r,
-        uid,
-        counter,
-        picc,
-        enc,
-        mac,
+        uid: uid_span(r),
+        counter: counter_span(r),
+        picc: picc_span(r),
+        enc: enc_span(r),
+        mac: mac_span(r),
     }
 }
 

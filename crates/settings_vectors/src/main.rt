@@ -3,7 +3,7 @@
 ghost use Prim.Native.Nat.{_≤_};
 use libc::STDOUT_FILENO;
 use lines::Decoded;
-use settings::Normalised;
+use writing::Normalised;
 
 // The status of a refusal, as four digits.
 fn show_status(s: settings::Status, out: &mut [u8]) -> usize {
@@ -15,7 +15,7 @@ fn show_status(s: settings::Status, out: &mut [u8]) -> usize {
 // The normal form or the status of a string, as digits, with their number.
 fn answer(file: u8, s: &[u8], out: &mut [u8]) -> usize {
     let mut room = [0u8; 32];
-    let a = settings::normalise(file, s, &mut room);
+    let a = writing::normalise(file, s, &mut room);
     match a {
         Normalised::Normal(n) => show_front(&room, n, out),
         Normalised::BadString(e) => show_status(e, out),

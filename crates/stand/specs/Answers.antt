@@ -8,8 +8,8 @@ use lib.ListN.{length}
 use Rattle.base.specs.Decide.{pick, and}
 use Rattle.settings.specs.declared.Verdict.{Verdict}
 use Rattle.settings.specs.declared.Verdict.the-variants.{Good, Refused}
-use Rattle.settings.specs.declared.Normalised.{Normalised}
-use Rattle.settings.specs.declared.Normalised.the-variants.{Normal, BadString, RoomTooSmall}
+use Rattle.writing.specs.declared.Normalised.{Normalised}
+use Rattle.writing.specs.declared.Normalised.the-variants.{Normal, BadString, RoomTooSmall}
 use Rattle.settings.specs.Answers.{statusWord}
 use Rattle.state.specs.declared.Tag.{Tag}
 use Rattle.state.specs.declared.Made.{Made}

@@ -1,14 +1,15 @@
 // The C border: numbers and byte slices alone, the state as an image of 672 bytes. include/mainspur.h declares it.
 ghost use mathlib.Core.Path.{_≡_};
 ghost use lib.ListN.{length};
-ghost use Rattle.settings.specs.Answers.{judged, normalised, normalRoom};
+ghost use Rattle.settings.specs.Answers.{judged};
+ghost use Rattle.writing.specs.Answers.{normalised, normalRoom};
 ghost use Rattle.image.specs.Image.{imageLength};
 ghost use Rattle.stand.specs.Answers.{Makes, Answers, Plays, verdictWord, normalNumber};
-use settings::Normalised;
 use settings::Verdict;
 use state::Made;
 use state::Tag;
 use tag::Outcome;
+use writing::Normalised;
 
 // How long an image is.
 #[no_mangle]
@@ -93,7 +94,7 @@ pub extern "C" fn mainspur_settings_normalise(file: u8, text: &[u8], room: &mut 
     ensures number { λ r. ⌜ r ≡ normalNumber (normalised (judged file (now (text .entry))) (now (text .entry)) (now (room .entry))) ⌝ }
     ensures left { λ _. ⌜ now (room .exit) ≡ normalRoom (judged file (now (text .entry))) (now (text .entry)) (now (room .entry)) ⌝ }
 {
-    let n = settings::normalise(file, text, room);
+    let n = writing::normalise(file, text, room);
     match n {
         Normalised::Normal(k) => k,
         Normalised::BadString(e) => settings::status_word(e) as usize,

@@ -15,9 +15,10 @@ use Rattle.base.proofs.Bytes.{le-or-lt}
 use Rattle.settings.specs.declared.Status.{Status}
 use Rattle.settings.specs.declared.Verdict.{Verdict}
 use Rattle.settings.specs.declared.Verdict.the-variants.{Good, Refused}
-use Rattle.settings.specs.declared.Normalised.{Normalised}
-use Rattle.settings.specs.declared.Normalised.the-variants.{Normal, BadString, RoomTooSmall}
-use Rattle.settings.specs.Answers.{judged, normalised, normalRoom}
+use Rattle.writing.specs.declared.Normalised.{Normalised}
+use Rattle.writing.specs.declared.Normalised.the-variants.{Normal, BadString, RoomTooSmall}
+use Rattle.settings.specs.Answers.{judged}
+use Rattle.writing.specs.Answers.{normalised, normalRoom}
 use Rattle.settings.specs.Normal.{normal}
 use Rattle.settings.specs.Fields.{readOf}
 use Rattle.settings.specs.Spans.{readingOf}

@@ -10,14 +10,14 @@ use crate::Tag;
 use crate::parts::head_of;
 use crate::parts::slot_of;
 use crate::parts::string_in;
-use settings::Normalised;
+use writing::Normalised;
 
 // Whether a string of at most 27 bytes keeps the rules for a file and is its own normal form.
 fn is_normal(n: u8, s: &[u8]) -> bool
     ensures { λ r. ⌜ r ≡ and (leb (length (now (s .entry))) 27) (stringSound n (now (s .entry))) ⌝ }
 {
     let mut room = [0u8; 27];
-    let a = settings::normalise(n, s, &mut room);
+    let a = writing::normalise(n, s, &mut room);
     match a {
         Normalised::Normal(k) => base::alike(s, &room[..k]),
         Normalised::BadString(_) => false,

@@ -1,18 +1,34 @@
 -- `settings::rules::broken` meets its contract.
+use mathlib.Core.Path.{refl, ap, _∙_}
+use Rattle.settings.specs.declared.Part.the-variants.{OptionByte, RightsBytes}
+use Rattle.settings.specs.declared.Check.the-variants.{OptionBits, SdmFile, Rights}
+use Rattle.settings.specs.Fields.{headOf}
+use Rattle.settings.specs.Rules.{found, optionBits, sdmFile, rights, restRules, rules}
+use Rattle.settings.proofs.Found.{Finds, whole, checked}
 use borrow.Author.Needs.{needs}
-use mathlib.Core.Path.{refl, sym, ap, _∙_}
-use lib.Dec.{eqb}
-use lib.ListN.{length}
-use borrow.Author.Tests.{le-leb, lt-leb, eq-eqb, ne-eqb}
-use Rattle.settings.proofs.Found.{on, off}
-use Rattle.settings.specs.Fields.{sizeOf}
-use Rattle.settings.specs.Rules.{found, optionBits, sdmFile, rights, sdmRules, rules}
 use Rattle.settings.proofs.rules.broken.Statement.{statement}
 use Rattle.settings.proofs.rules.broken.Tie as tie
 
-returns : tie.Need-returns
-unfolding found rules
-returns c = rw (lt-leb 1 (length (c .before .before .args .s .now)) (c .if1 .taken)) refl
+head-requires : tie.Need-head-requires
+head-requires c κs = search needs
+
+rest-broken-requires : tie.Need-rest-broken-requires
+rest-broken-requires c κs = search needs
+
+rights-kept-requires : tie.Need-rights-kept-requires
+rights-kept-requires c κs = search needs
+
+right-requires : tie.Need-right-requires
+right-requires c κs = search needs
+
+there-requires : tie.Need-there-requires
+there-requires c κs = search needs
+
+sdm-file-requires : tie.Need-sdm-file-requires
+sdm-file-requires c κs = search needs
+
+right-requires-2 : tie.Need-right-requires-2
+right-requires-2 c κs = search needs
 
 at-requires : tie.Need-at-requires
 at-requires c κs = search needs
@@ -20,69 +36,41 @@ at-requires c κs = search needs
 option-bits-requires : tie.Need-option-bits-requires
 option-bits-requires c κs = search needs
 
-returns-2 : tie.Need-returns-2
-unfolding found rules
-returns-2 c = rw (le-leb 1 (length (c .before .before .before .before .before .args .s .now)) (c .before .before .before .if1 .left), off (c .before .option-bits .ensures ∙ ap optionBits (c .before .before .at .ensures)) (c .if2 .taken)) refl
+right-requires-3 : tie.Need-right-requires-3
+right-requires-3 c κs = search needs
 
-head-requires : tie.Need-head-requires
-head-requires c κs = search needs
+there-requires-2 : tie.Need-there-requires-2
+there-requires-2 c κs = search needs
 
-sdm-file-requires : tie.Need-sdm-file-requires
-sdm-file-requires c κs = search needs
-
-returns-3 : tie.Need-returns-3
-unfolding found rules
-returns-3 c = rw (le-leb 1 (length (c .before .before .before .before .before .before .before .before .args .s .now)) (c .before .before .before .before .before .before .if1 .left), on (c .before .before .before .before .option-bits .ensures ∙ ap optionBits (c .before .before .before .before .before .at .ensures)) (c .before .before .before .if2 .left), off (c .before .sdm-file .ensures ∙ ap (λ h. sdmFile (c .before .before .before .before .before .before .before .before .args .file) h) (c .before .before .head .ensures)) (c .if3 .taken)) refl
-
-returns-4 : tie.Need-returns-4
-unfolding found rules
-returns-4 c = rw (le-leb 1 (length (c .before .before .before .before .before .before .before .before .before .args .s .now)) (c .before .before .before .before .before .before .before .if1 .left), on (c .before .before .before .before .before .option-bits .ensures ∙ ap optionBits (c .before .before .before .before .before .before .at .ensures)) (c .before .before .before .before .if2 .left), on (c .before .before .sdm-file .ensures ∙ ap (λ h. sdmFile (c .before .before .before .before .before .before .before .before .before .args .file) h) (c .before .before .before .head .ensures)) (c .before .if3 .left), lt-leb 3 (length (c .before .before .before .before .before .before .before .before .before .args .s .now)) (c .if4 .taken)) refl
-
-rights-kept-requires : tie.Need-rights-kept-requires
-rights-kept-requires c κs = search needs
-
-returns-5 : tie.Need-returns-5
-unfolding found rules
-returns-5 c = rw (le-leb 1 (length (c .before .before .before .before .before .before .before .before .before .before .before .args .s .now)) (c .before .before .before .before .before .before .before .before .before .if1 .left), on (c .before .before .before .before .before .before .before .option-bits .ensures ∙ ap optionBits (c .before .before .before .before .before .before .before .before .at .ensures)) (c .before .before .before .before .before .before .if2 .left), on (c .before .before .before .before .sdm-file .ensures ∙ ap (λ h. sdmFile (c .before .before .before .before .before .before .before .before .before .before .before .args .file) h) (c .before .before .before .before .before .head .ensures)) (c .before .before .before .if3 .left), le-leb 3 (length (c .before .before .before .before .before .before .before .before .before .before .before .args .s .now)) (c .before .before .if4 .left), off (c .before .rights-kept .ensures ∙ ap rights (c .before .before .before .before .before .head .ensures)) (c .if5 .taken)) refl
-
-sdm-on-requires : tie.Need-sdm-on-requires
-sdm-on-requires c κs = search needs
-
-sdm-broken-requires : tie.Need-sdm-broken-requires
-sdm-broken-requires c κs = search needs
-
-returns-6 : tie.Need-returns-6
-unfolding found rules
-returns-6 c = rw (le-leb 1 (length (c .before .before .before .before .before .before .before .before .before .before .before .before .before .before .args .s .now)) (c .before .before .before .before .before .before .before .before .before .before .before .before .if1 .left), on (c .before .before .before .before .before .before .before .before .before .before .option-bits .ensures ∙ ap optionBits (c .before .before .before .before .before .before .before .before .before .before .before .at .ensures)) (c .before .before .before .before .before .before .before .before .before .if2 .left), on (c .before .before .before .before .before .before .before .sdm-file .ensures ∙ ap (λ h. sdmFile (c .before .before .before .before .before .before .before .before .before .before .before .before .before .before .args .file) h) (c .before .before .before .before .before .before .before .before .head .ensures)) (c .before .before .before .before .before .before .if3 .left), le-leb 3 (length (c .before .before .before .before .before .before .before .before .before .before .before .before .before .before .args .s .now)) (c .before .before .before .before .before .if4 .left), on (c .before .before .before .before .rights-kept .ensures ∙ ap rights (c .before .before .before .before .before .before .before .before .head .ensures)) (c .before .before .before .if5 .left), sym (c .before .before .sdm-on .ensures) ∙ c .before .if6 .taken) (c .sdm-broken .ensures ∙ ap (λ h. found (sdmRules (c .before .before .before .before .before .before .before .before .before .before .before .before .before .before .args .s .now) h)) (c .before .before .before .before .before .before .before .before .head .ensures))
-
-size-of-requires : tie.Need-size-of-requires
-size-of-requires c κs = search needs
-
-returns-7 : tie.Need-returns-7
-unfolding found rules
-returns-7 c = rw (le-leb 1 (length (c .before .before .before .before .before .before .before .before .before .before .before .before .before .before .before .args .s .now)) (c .before .before .before .before .before .before .before .before .before .before .before .before .before .if1 .left), on (c .before .before .before .before .before .before .before .before .before .before .before .option-bits .ensures ∙ ap optionBits (c .before .before .before .before .before .before .before .before .before .before .before .before .at .ensures)) (c .before .before .before .before .before .before .before .before .before .before .if2 .left), on (c .before .before .before .before .before .before .before .before .sdm-file .ensures ∙ ap (λ h. sdmFile (c .before .before .before .before .before .before .before .before .before .before .before .before .before .before .before .args .file) h) (c .before .before .before .before .before .before .before .before .before .head .ensures)) (c .before .before .before .before .before .before .before .if3 .left), le-leb 3 (length (c .before .before .before .before .before .before .before .before .before .before .before .before .before .before .before .args .s .now)) (c .before .before .before .before .before .before .if4 .left), on (c .before .before .before .before .before .rights-kept .ensures ∙ ap rights (c .before .before .before .before .before .before .before .before .before .head .ensures)) (c .before .before .before .before .if5 .left), sym (c .before .before .before .sdm-on .ensures) ∙ c .before .before .if6 .left, ap (λ n. eqb (length (c .before .before .before .before .before .before .before .before .before .before .before .before .before .before .before .args .s .now)) n) (sym (c .before .size-of .ensures ∙ ap sizeOf (c .before .before .before .before .before .before .before .before .before .head .ensures))) ∙ ne-eqb _ _ (c .if7 .taken)) refl
-
-returns-8 : tie.Need-returns-8
-unfolding found rules
-returns-8 c = rw (le-leb 1 (length (c .before .before .before .before .before .before .before .before .before .before .before .before .before .before .before .args .s .now)) (c .before .before .before .before .before .before .before .before .before .before .before .before .before .if1 .left), on (c .before .before .before .before .before .before .before .before .before .before .before .option-bits .ensures ∙ ap optionBits (c .before .before .before .before .before .before .before .before .before .before .before .before .at .ensures)) (c .before .before .before .before .before .before .before .before .before .before .if2 .left), on (c .before .before .before .before .before .before .before .before .sdm-file .ensures ∙ ap (λ h. sdmFile (c .before .before .before .before .before .before .before .before .before .before .before .before .before .before .before .args .file) h) (c .before .before .before .before .before .before .before .before .before .head .ensures)) (c .before .before .before .before .before .before .before .if3 .left), le-leb 3 (length (c .before .before .before .before .before .before .before .before .before .before .before .before .before .before .before .args .s .now)) (c .before .before .before .before .before .before .if4 .left), on (c .before .before .before .before .before .rights-kept .ensures ∙ ap rights (c .before .before .before .before .before .before .before .before .before .head .ensures)) (c .before .before .before .before .if5 .left), sym (c .before .before .before .sdm-on .ensures) ∙ c .before .before .if6 .left, ap (λ n. eqb (length (c .before .before .before .before .before .before .before .before .before .before .before .before .before .before .before .args .s .now)) n) (sym (c .before .size-of .ensures ∙ ap sizeOf (c .before .before .before .before .before .before .before .before .before .head .ensures))) ∙ eq-eqb _ _ (c .if7 .left)) refl
+returns : tie.Need-returns
+unfolding rules
+returns c =
+    let d = c .before .before .before .before .before in
+    let g = d .before .before .before .before .before in
+    let s = g .before .before .args .s .now in
+    let n = g .before .before .args .file in
+    let h = g .head .ensures in
+    let f₆ : Finds (d .before .before .before .before .rest-broken .result) (restRules s (headOf s)) =
+    record { is = d .before .before .before .before .rest-broken .ensures ∙ ap (λ x. found (restRules s x)) h } in
+    let f₅ = checked Rights (d .before .before .before .rights-kept .ensures ∙ ap rights h) f₆ (d .before .before .right .ensures) in
+    let f₄ = whole RightsBytes refl f₅ (d .before .there .ensures) in
+    let f₃ = checked SdmFile (d .sdm-file .ensures ∙ ap (λ x. sdmFile n x) h) f₄ (c .before .before .before .before .right2 .ensures) in
+    let o = c .before .before .option-bits .ensures ∙ ap optionBits (c .before .before .before .at .ensures) in
+    whole OptionByte refl (checked OptionBits o f₃ (c .before .right3 .ensures)) (c .there2 .ensures) .is
 
 pub broken-spec : {M : Type 1} → statement M
 broken-spec =
     tie.close
     (tie.spec
-    returns
+    head-requires
+    rest-broken-requires
+    rights-kept-requires
+    right-requires
+    there-requires
+    sdm-file-requires
+    right-requires-2
     at-requires
     option-bits-requires
-    returns-2
-    head-requires
-    sdm-file-requires
-    returns-3
-    returns-4
-    rights-kept-requires
-    returns-5
-    sdm-on-requires
-    sdm-broken-requires
-    returns-6
-    size-of-requires
-    returns-7
-    returns-8)
+    right-requires-3
+    there-requires-2
+    returns)

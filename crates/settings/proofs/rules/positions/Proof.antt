@@ -1,104 +1,131 @@
 -- `settings::rules::positions` meets its contract.
+use mathlib.Core.Path.{_≡_, ap, _∙_}
+use Rattle.settings.specs.declared.Check.the-variants.{EncSize, UidInside, CounterInside, PiccInside, EncInside}
+use Rattle.settings.specs.declared.Check.the-variants.{MacInside, Shared, MacInput, EncBetween}
+use Rattle.settings.specs.Spans.{spansOf, inside, allApart}
+use Rattle.settings.specs.Rules.{positionRules}
+use Rattle.settings.proofs.Found.{none, checked}
 use borrow.Author.Needs.{needs}
-use mathlib.Core.Path.{refl, ap, _∙_}
-use mathlib.Core.List.{[], _∷_}
-use Rattle.settings.specs.Spans.{readingOf, spansOf, inside, allApart}
-use Rattle.settings.specs.Rules.{found, positionRules}
-use Rattle.settings.proofs.Found.{on, off}
 use Rattle.settings.proofs.rules.positions.Statement.{statement}
 use Rattle.settings.proofs.rules.positions.Tie as tie
 
-enc-size-requires : tie.Need-enc-size-requires
-enc-size-requires c κs = search needs
+uid-span-requires : tie.Need-uid-span-requires
+uid-span-requires c κs = search needs
 
-returns : tie.Need-returns
-unfolding found positionRules readingOf spansOf
-returns c = rw (off (c .before .enc-size .ensures) (c .if1 .taken)) refl
+counter-span-requires : tie.Need-counter-span-requires
+counter-span-requires c κs = search needs
 
-with-spans-requires : tie.Need-with-spans-requires
-with-spans-requires c κs = search needs
+picc-span-requires : tie.Need-picc-span-requires
+picc-span-requires c κs = search needs
 
-is-inside-requires : tie.Need-is-inside-requires
-is-inside-requires c κs = search needs
+enc-span-requires : tie.Need-enc-span-requires
+enc-span-requires c κs = search needs
 
-returns-2 : tie.Need-returns-2
-unfolding found positionRules readingOf spansOf
-returns-2 c = rw (on (c .before .before .before .before .before .before .before .before .before .enc-size .ensures) (c .before .before .before .before .before .before .before .before .if1 .left), off ((c .before .is-inside .ensures ∙ ap (λ x. inside (x .uid)) (c .before .before .before .before .before .before .before .with-spans .ensures))) (c .if2 .taken)) refl
-
-is-inside-requires-2 : tie.Need-is-inside-requires-2
-is-inside-requires-2 c κs = search needs
-
-returns-3 : tie.Need-returns-3
-unfolding found positionRules readingOf spansOf
-returns-3 c = rw (on (c .before .before .before .before .before .before .before .before .before .before .before .enc-size .ensures) (c .before .before .before .before .before .before .before .before .before .before .if1 .left), on ((c .before .before .before .is-inside .ensures ∙ ap (λ x. inside (x .uid)) (c .before .before .before .before .before .before .before .before .before .with-spans .ensures))) (c .before .before .if2 .left), off ((c .before .is-inside2 .ensures ∙ ap (λ x. inside (x .counter)) (c .before .before .before .before .before .before .before .before .before .with-spans .ensures))) (c .if3 .taken)) refl
-
-is-inside-requires-3 : tie.Need-is-inside-requires-3
-is-inside-requires-3 c κs = search needs
-
-returns-4 : tie.Need-returns-4
-unfolding found positionRules readingOf spansOf
-returns-4 c = rw (on (c .before .before .before .before .before .before .before .before .before .before .before .before .before .enc-size .ensures) (c .before .before .before .before .before .before .before .before .before .before .before .before .if1 .left), on ((c .before .before .before .before .before .is-inside .ensures ∙ ap (λ x. inside (x .uid)) (c .before .before .before .before .before .before .before .before .before .before .before .with-spans .ensures))) (c .before .before .before .before .if2 .left), on ((c .before .before .before .is-inside2 .ensures ∙ ap (λ x. inside (x .counter)) (c .before .before .before .before .before .before .before .before .before .before .before .with-spans .ensures))) (c .before .before .if3 .left), off ((c .before .is-inside3 .ensures ∙ ap (λ x. inside (x .picc)) (c .before .before .before .before .before .before .before .before .before .before .before .with-spans .ensures))) (c .if4 .taken)) refl
-
-is-inside-requires-4 : tie.Need-is-inside-requires-4
-is-inside-requires-4 c κs = search needs
-
-returns-5 : tie.Need-returns-5
-unfolding found positionRules readingOf spansOf
-returns-5 c = rw (on (c .before .before .before .before .before .before .before .before .before .before .before .before .before .before .before .enc-size .ensures) (c .before .before .before .before .before .before .before .before .before .before .before .before .before .before .if1 .left), on ((c .before .before .before .before .before .before .before .is-inside .ensures ∙ ap (λ x. inside (x .uid)) (c .before .before .before .before .before .before .before .before .before .before .before .before .before .with-spans .ensures))) (c .before .before .before .before .before .before .if2 .left), on ((c .before .before .before .before .before .is-inside2 .ensures ∙ ap (λ x. inside (x .counter)) (c .before .before .before .before .before .before .before .before .before .before .before .before .before .with-spans .ensures))) (c .before .before .before .before .if3 .left), on ((c .before .before .before .is-inside3 .ensures ∙ ap (λ x. inside (x .picc)) (c .before .before .before .before .before .before .before .before .before .before .before .before .before .with-spans .ensures))) (c .before .before .if4 .left), off ((c .before .is-inside4 .ensures ∙ ap (λ x. inside (x .enc)) (c .before .before .before .before .before .before .before .before .before .before .before .before .before .with-spans .ensures))) (c .if5 .taken)) refl
-
-is-inside-requires-5 : tie.Need-is-inside-requires-5
-is-inside-requires-5 c κs = search needs
-
-returns-6 : tie.Need-returns-6
-unfolding found positionRules readingOf spansOf
-returns-6 c = rw (on (c .before .before .before .before .before .before .before .before .before .before .before .before .before .before .before .before .before .enc-size .ensures) (c .before .before .before .before .before .before .before .before .before .before .before .before .before .before .before .before .if1 .left), on ((c .before .before .before .before .before .before .before .before .before .is-inside .ensures ∙ ap (λ x. inside (x .uid)) (c .before .before .before .before .before .before .before .before .before .before .before .before .before .before .before .with-spans .ensures))) (c .before .before .before .before .before .before .before .before .if2 .left), on ((c .before .before .before .before .before .before .before .is-inside2 .ensures ∙ ap (λ x. inside (x .counter)) (c .before .before .before .before .before .before .before .before .before .before .before .before .before .before .before .with-spans .ensures))) (c .before .before .before .before .before .before .if3 .left), on ((c .before .before .before .before .before .is-inside3 .ensures ∙ ap (λ x. inside (x .picc)) (c .before .before .before .before .before .before .before .before .before .before .before .before .before .before .before .with-spans .ensures))) (c .before .before .before .before .if4 .left), on ((c .before .before .before .is-inside4 .ensures ∙ ap (λ x. inside (x .enc)) (c .before .before .before .before .before .before .before .before .before .before .before .before .before .before .before .with-spans .ensures))) (c .before .before .if5 .left), off ((c .before .is-inside5 .ensures ∙ ap (λ x. inside (x .mac)) (c .before .before .before .before .before .before .before .before .before .before .before .before .before .before .before .with-spans .ensures))) (c .if6 .taken)) refl
-
-all-apart-requires : tie.Need-all-apart-requires
-all-apart-requires c κs = search needs
-
-returns-7 : tie.Need-returns-7
-unfolding found positionRules readingOf spansOf
-returns-7 c = rw (on (c .before .before .before .before .before .before .before .before .before .before .before .before .before .before .before .before .before .before .before .enc-size .ensures) (c .before .before .before .before .before .before .before .before .before .before .before .before .before .before .before .before .before .before .if1 .left), on ((c .before .before .before .before .before .before .before .before .before .before .before .is-inside .ensures ∙ ap (λ x. inside (x .uid)) (c .before .before .before .before .before .before .before .before .before .before .before .before .before .before .before .before .before .with-spans .ensures))) (c .before .before .before .before .before .before .before .before .before .before .if2 .left), on ((c .before .before .before .before .before .before .before .before .before .is-inside2 .ensures ∙ ap (λ x. inside (x .counter)) (c .before .before .before .before .before .before .before .before .before .before .before .before .before .before .before .before .before .with-spans .ensures))) (c .before .before .before .before .before .before .before .before .if3 .left), on ((c .before .before .before .before .before .before .before .is-inside3 .ensures ∙ ap (λ x. inside (x .picc)) (c .before .before .before .before .before .before .before .before .before .before .before .before .before .before .before .before .before .with-spans .ensures))) (c .before .before .before .before .before .before .if4 .left), on ((c .before .before .before .before .before .is-inside4 .ensures ∙ ap (λ x. inside (x .enc)) (c .before .before .before .before .before .before .before .before .before .before .before .before .before .before .before .before .before .with-spans .ensures))) (c .before .before .before .before .if5 .left), on ((c .before .before .before .is-inside5 .ensures ∙ ap (λ x. inside (x .mac)) (c .before .before .before .before .before .before .before .before .before .before .before .before .before .before .before .before .before .with-spans .ensures))) (c .before .before .if6 .left), off ((c .before .all-apart .ensures ∙ ap (λ x. allApart (x .uid ∷ x .counter ∷ x .picc ∷ x .enc ∷ x .mac ∷ [])) (c .before .before .before .before .before .before .before .before .before .before .before .before .before .before .before .before .before .with-spans .ensures))) (c .if7 .taken)) refl
-
-mac-input-requires : tie.Need-mac-input-requires
-mac-input-requires c κs = search needs
-
-returns-8 : tie.Need-returns-8
-unfolding found positionRules readingOf spansOf
-returns-8 c = rw (on (c .before .before .before .before .before .before .before .before .before .before .before .before .before .before .before .before .before .before .before .before .before .enc-size .ensures) (c .before .before .before .before .before .before .before .before .before .before .before .before .before .before .before .before .before .before .before .before .if1 .left), on ((c .before .before .before .before .before .before .before .before .before .before .before .before .before .is-inside .ensures ∙ ap (λ x. inside (x .uid)) (c .before .before .before .before .before .before .before .before .before .before .before .before .before .before .before .before .before .before .before .with-spans .ensures))) (c .before .before .before .before .before .before .before .before .before .before .before .before .if2 .left), on ((c .before .before .before .before .before .before .before .before .before .before .before .is-inside2 .ensures ∙ ap (λ x. inside (x .counter)) (c .before .before .before .before .before .before .before .before .before .before .before .before .before .before .before .before .before .before .before .with-spans .ensures))) (c .before .before .before .before .before .before .before .before .before .before .if3 .left), on ((c .before .before .before .before .before .before .before .before .before .is-inside3 .ensures ∙ ap (λ x. inside (x .picc)) (c .before .before .before .before .before .before .before .before .before .before .before .before .before .before .before .before .before .before .before .with-spans .ensures))) (c .before .before .before .before .before .before .before .before .if4 .left), on ((c .before .before .before .before .before .before .before .is-inside4 .ensures ∙ ap (λ x. inside (x .enc)) (c .before .before .before .before .before .before .before .before .before .before .before .before .before .before .before .before .before .before .before .with-spans .ensures))) (c .before .before .before .before .before .before .if5 .left), on ((c .before .before .before .before .before .is-inside5 .ensures ∙ ap (λ x. inside (x .mac)) (c .before .before .before .before .before .before .before .before .before .before .before .before .before .before .before .before .before .before .before .with-spans .ensures))) (c .before .before .before .before .if6 .left), on ((c .before .before .before .all-apart .ensures ∙ ap (λ x. allApart (x .uid ∷ x .counter ∷ x .picc ∷ x .enc ∷ x .mac ∷ [])) (c .before .before .before .before .before .before .before .before .before .before .before .before .before .before .before .before .before .before .before .with-spans .ensures))) (c .before .before .if7 .left), off (c .before .mac-input .ensures) (c .if8 .taken)) refl
+mac-span-requires : tie.Need-mac-span-requires
+mac-span-requires c κs = search needs
 
 enc-between-requires : tie.Need-enc-between-requires
 enc-between-requires c κs = search needs
 
-returns-9 : tie.Need-returns-9
-unfolding found positionRules readingOf spansOf
-returns-9 c = rw (on (c .before .before .before .before .before .before .before .before .before .before .before .before .before .before .before .before .before .before .before .before .before .before .before .enc-size .ensures) (c .before .before .before .before .before .before .before .before .before .before .before .before .before .before .before .before .before .before .before .before .before .before .if1 .left), on ((c .before .before .before .before .before .before .before .before .before .before .before .before .before .before .before .is-inside .ensures ∙ ap (λ x. inside (x .uid)) (c .before .before .before .before .before .before .before .before .before .before .before .before .before .before .before .before .before .before .before .before .before .with-spans .ensures))) (c .before .before .before .before .before .before .before .before .before .before .before .before .before .before .if2 .left), on ((c .before .before .before .before .before .before .before .before .before .before .before .before .before .is-inside2 .ensures ∙ ap (λ x. inside (x .counter)) (c .before .before .before .before .before .before .before .before .before .before .before .before .before .before .before .before .before .before .before .before .before .with-spans .ensures))) (c .before .before .before .before .before .before .before .before .before .before .before .before .if3 .left), on ((c .before .before .before .before .before .before .before .before .before .before .before .is-inside3 .ensures ∙ ap (λ x. inside (x .picc)) (c .before .before .before .before .before .before .before .before .before .before .before .before .before .before .before .before .before .before .before .before .before .with-spans .ensures))) (c .before .before .before .before .before .before .before .before .before .before .if4 .left), on ((c .before .before .before .before .before .before .before .before .before .is-inside4 .ensures ∙ ap (λ x. inside (x .enc)) (c .before .before .before .before .before .before .before .before .before .before .before .before .before .before .before .before .before .before .before .before .before .with-spans .ensures))) (c .before .before .before .before .before .before .before .before .if5 .left), on ((c .before .before .before .before .before .before .before .is-inside5 .ensures ∙ ap (λ x. inside (x .mac)) (c .before .before .before .before .before .before .before .before .before .before .before .before .before .before .before .before .before .before .before .before .before .with-spans .ensures))) (c .before .before .before .before .before .before .if6 .left), on ((c .before .before .before .before .before .all-apart .ensures ∙ ap (λ x. allApart (x .uid ∷ x .counter ∷ x .picc ∷ x .enc ∷ x .mac ∷ [])) (c .before .before .before .before .before .before .before .before .before .before .before .before .before .before .before .before .before .before .before .before .before .with-spans .ensures))) (c .before .before .before .before .if7 .left), on (c .before .before .before .mac-input .ensures) (c .before .before .if8 .left), off (c .before .enc-between .ensures) (c .if9 .taken)) refl
+right-requires : tie.Need-right-requires
+right-requires c κs = search needs
 
-returns-10 : tie.Need-returns-10
-unfolding found positionRules readingOf spansOf
-returns-10 c = rw (on (c .before .before .before .before .before .before .before .before .before .before .before .before .before .before .before .before .before .before .before .before .before .before .before .enc-size .ensures) (c .before .before .before .before .before .before .before .before .before .before .before .before .before .before .before .before .before .before .before .before .before .before .if1 .left), on ((c .before .before .before .before .before .before .before .before .before .before .before .before .before .before .before .is-inside .ensures ∙ ap (λ x. inside (x .uid)) (c .before .before .before .before .before .before .before .before .before .before .before .before .before .before .before .before .before .before .before .before .before .with-spans .ensures))) (c .before .before .before .before .before .before .before .before .before .before .before .before .before .before .if2 .left), on ((c .before .before .before .before .before .before .before .before .before .before .before .before .before .is-inside2 .ensures ∙ ap (λ x. inside (x .counter)) (c .before .before .before .before .before .before .before .before .before .before .before .before .before .before .before .before .before .before .before .before .before .with-spans .ensures))) (c .before .before .before .before .before .before .before .before .before .before .before .before .if3 .left), on ((c .before .before .before .before .before .before .before .before .before .before .before .is-inside3 .ensures ∙ ap (λ x. inside (x .picc)) (c .before .before .before .before .before .before .before .before .before .before .before .before .before .before .before .before .before .before .before .before .before .with-spans .ensures))) (c .before .before .before .before .before .before .before .before .before .before .if4 .left), on ((c .before .before .before .before .before .before .before .before .before .is-inside4 .ensures ∙ ap (λ x. inside (x .enc)) (c .before .before .before .before .before .before .before .before .before .before .before .before .before .before .before .before .before .before .before .before .before .with-spans .ensures))) (c .before .before .before .before .before .before .before .before .if5 .left), on ((c .before .before .before .before .before .before .before .is-inside5 .ensures ∙ ap (λ x. inside (x .mac)) (c .before .before .before .before .before .before .before .before .before .before .before .before .before .before .before .before .before .before .before .before .before .with-spans .ensures))) (c .before .before .before .before .before .before .if6 .left), on ((c .before .before .before .before .before .all-apart .ensures ∙ ap (λ x. allApart (x .uid ∷ x .counter ∷ x .picc ∷ x .enc ∷ x .mac ∷ [])) (c .before .before .before .before .before .before .before .before .before .before .before .before .before .before .before .before .before .before .before .before .before .with-spans .ensures))) (c .before .before .before .before .if7 .left), on (c .before .before .before .mac-input .ensures) (c .before .before .if8 .left), on (c .before .enc-between .ensures) (c .if9 .left)) refl
+mac-input-requires : tie.Need-mac-input-requires
+mac-input-requires c κs = search needs
+
+right-requires-2 : tie.Need-right-requires-2
+right-requires-2 c κs = search needs
+
+all-apart-requires : tie.Need-all-apart-requires
+all-apart-requires c κs = search needs
+
+right-requires-3 : tie.Need-right-requires-3
+right-requires-3 c κs = search needs
+
+is-inside-requires : tie.Need-is-inside-requires
+is-inside-requires c κs = search needs
+
+right-requires-4 : tie.Need-right-requires-4
+right-requires-4 c κs = search needs
+
+is-inside-requires-2 : tie.Need-is-inside-requires-2
+is-inside-requires-2 c κs = search needs
+
+right-requires-5 : tie.Need-right-requires-5
+right-requires-5 c κs = search needs
+
+is-inside-requires-3 : tie.Need-is-inside-requires-3
+is-inside-requires-3 c κs = search needs
+
+right-requires-6 : tie.Need-right-requires-6
+right-requires-6 c κs = search needs
+
+is-inside-requires-4 : tie.Need-is-inside-requires-4
+is-inside-requires-4 c κs = search needs
+
+right-requires-7 : tie.Need-right-requires-7
+right-requires-7 c κs = search needs
+
+is-inside-requires-5 : tie.Need-is-inside-requires-5
+is-inside-requires-5 c κs = search needs
+
+right-requires-8 : tie.Need-right-requires-8
+right-requires-8 c κs = search needs
+
+enc-size-requires : tie.Need-enc-size-requires
+enc-size-requires c κs = search needs
+
+right-requires-9 : tie.Need-right-requires-9
+right-requires-9 c κs = search needs
+
+returns : tie.Need-returns
+unfolding positionRules spansOf
+returns c =
+    let d = c .before .before .before .before .before .before .before .before .before .before .before in
+    let g = d .before .before .before .before .before .before .before in
+    let r = g .before .before .before .before .before .args .r in
+    let mac = g .mac-span .ensures in
+    let enc = g .before .enc-span .ensures in
+    let picc = g .before .before .picc-span .ensures in
+    let counter = g .before .before .before .counter-span .ensures in
+    let uid = g .before .before .before .before .uid-span .ensures in
+    let apart : d .before .before .all-apart .result ≡ allApart (spansOf r) = d .before .before .all-apart .ensures ∙ simp (uid, counter, picc, enc, mac) in
+    let f₉ = checked EncBetween (d .before .before .before .before .before .before .enc-between .ensures) none (d .before .before .before .before .before .right .ensures) in
+    let f₈ = checked MacInput (d .before .before .before .before .mac-input .ensures) f₉ (d .before .before .before .right2 .ensures) in
+    let f₇ = checked Shared apart f₈ (d .before .right3 .ensures) in
+    let e = c .before .before .before .before .before .before in
+    let f₆ = checked MacInside (d .is-inside .ensures ∙ ap inside mac) f₇ (e .before .before .before .before .right4 .ensures) in
+    let f₅ = checked EncInside (e .before .before .before .is-inside2 .ensures ∙ ap inside enc) f₆ (e .before .before .right5 .ensures) in
+    let f₄ = checked PiccInside (e .before .is-inside3 .ensures ∙ ap inside picc) f₅ (e .right6 .ensures) in
+    let f₃ = checked CounterInside (c .before .before .before .before .before .is-inside4 .ensures ∙ ap inside counter) f₄ (c .before .before .before .before .right7 .ensures) in
+    let f₂ = checked UidInside (c .before .before .before .is-inside5 .ensures ∙ ap inside uid) f₃ (c .before .before .right8 .ensures) in
+    checked EncSize (c .before .enc-size .ensures) f₂ (c .right9 .ensures) .is
 
 pub positions-spec : {M : Type 1} → statement M
 positions-spec =
     tie.close
     (tie.spec
-    enc-size-requires
-    returns
-    with-spans-requires
-    is-inside-requires
-    returns-2
-    is-inside-requires-2
-    returns-3
-    is-inside-requires-3
-    returns-4
-    is-inside-requires-4
-    returns-5
-    is-inside-requires-5
-    returns-6
-    all-apart-requires
-    returns-7
-    mac-input-requires
-    returns-8
+    uid-span-requires
+    counter-span-requires
+    picc-span-requires
+    enc-span-requires
+    mac-span-requires
     enc-between-requires
-    returns-9
-    returns-10)
+    right-requires
+    mac-input-requires
+    right-requires-2
+    all-apart-requires
+    right-requires-3
+    is-inside-requires
+    right-requires-4
+    is-inside-requires-2
+    right-requires-5
+    is-inside-requires-3
+    right-requires-6
+    is-inside-requires-4
+    right-requires-7
+    is-inside-requires-5
+    right-requires-8
+    enc-size-requires
+    right-requires-9
+    returns)

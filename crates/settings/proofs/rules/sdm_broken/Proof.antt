@@ -1,66 +1,15 @@
 -- `settings::rules::sdm_broken` meets its contract.
-use borrow.Author.Needs.{needs}
-use mathlib.Core.Path.{refl, sym, ap, _∙_}
+use mathlib.Core.Path.{refl, ap, _∙_}
 use lib.Dec.{eqb}
 use lib.ListN.{length}
-use borrow.Author.Tests.{le-leb, lt-leb, eq-eqb, ne-eqb}
-use Rattle.settings.proofs.Found.{on, off}
-use Rattle.settings.specs.Rules.{found, sdmOptionsBits, sdmRules, positionRules}
+use Rattle.settings.specs.declared.Part.the-variants.{SdmOptionsByte, SdmRightsBytes, Whole}
+use Rattle.settings.specs.declared.Check.the-variants.{SdmOptionsBits, SdmRights, MetaMirrors, MetaOff, EncNeeds}
+use Rattle.settings.specs.Fields.{placesIn}
+use Rattle.settings.specs.Rules.{found, sdmOptionsBits, positionRules, sdmRules}
+use Rattle.settings.proofs.Found.{Finds, whole, checked}
+use borrow.Author.Needs.{needs}
 use Rattle.settings.proofs.rules.sdm_broken.Statement.{statement}
 use Rattle.settings.proofs.rules.sdm_broken.Tie as tie
-
-returns : tie.Need-returns
-unfolding found sdmRules
-returns c = rw (lt-leb 4 (length (c .before .before .args .s .now)) (c .if1 .taken)) refl
-
-at-requires : tie.Need-at-requires
-at-requires c κs = search needs
-
-sdm-options-bits-requires : tie.Need-sdm-options-bits-requires
-sdm-options-bits-requires c κs = search needs
-
-returns-2 : tie.Need-returns-2
-unfolding found sdmRules
-returns-2 c = rw (le-leb 4 (length (c .before .before .before .before .before .args .s .now)) (c .before .before .before .if1 .left), off (c .before .sdm-options-bits .ensures ∙ ap sdmOptionsBits (c .before .before .at .ensures)) (c .if2 .taken)) refl
-
-returns-3 : tie.Need-returns-3
-unfolding found sdmRules
-returns-3 c = rw (le-leb 4 (length (c .before .before .before .before .before .before .args .s .now)) (c .before .before .before .before .if1 .left), on (c .before .before .sdm-options-bits .ensures ∙ ap sdmOptionsBits (c .before .before .before .at .ensures)) (c .before .if2 .left), lt-leb 6 (length (c .before .before .before .before .before .before .args .s .now)) (c .if3 .taken)) refl
-
-sdm-rights-requires : tie.Need-sdm-rights-requires
-sdm-rights-requires c κs = search needs
-
-returns-4 : tie.Need-returns-4
-unfolding found sdmRules
-returns-4 c = rw (le-leb 4 (length (c .before .before .before .before .before .before .before .before .args .s .now)) (c .before .before .before .before .before .before .if1 .left), on (c .before .before .before .before .sdm-options-bits .ensures ∙ ap sdmOptionsBits (c .before .before .before .before .before .at .ensures)) (c .before .before .before .if2 .left), le-leb 6 (length (c .before .before .before .before .before .before .before .before .args .s .now)) (c .before .before .if3 .left), off (c .before .sdm-rights .ensures) (c .if4 .taken)) refl
-
-meta-mirrors-requires : tie.Need-meta-mirrors-requires
-meta-mirrors-requires c κs = search needs
-
-returns-5 : tie.Need-returns-5
-unfolding found sdmRules
-returns-5 c = rw (le-leb 4 (length (c .before .before .before .before .before .before .before .before .before .before .args .s .now)) (c .before .before .before .before .before .before .before .before .if1 .left), on (c .before .before .before .before .before .before .sdm-options-bits .ensures ∙ ap sdmOptionsBits (c .before .before .before .before .before .before .before .at .ensures)) (c .before .before .before .before .before .if2 .left), le-leb 6 (length (c .before .before .before .before .before .before .before .before .before .before .args .s .now)) (c .before .before .before .before .if3 .left), on (c .before .before .before .sdm-rights .ensures) (c .before .before .if4 .left), off (c .before .meta-mirrors .ensures) (c .if5 .taken)) refl
-
-meta-off-requires : tie.Need-meta-off-requires
-meta-off-requires c κs = search needs
-
-returns-6 : tie.Need-returns-6
-unfolding found sdmRules
-returns-6 c = rw (le-leb 4 (length (c .before .before .before .before .before .before .before .before .before .before .before .before .args .s .now)) (c .before .before .before .before .before .before .before .before .before .before .if1 .left), on (c .before .before .before .before .before .before .before .before .sdm-options-bits .ensures ∙ ap sdmOptionsBits (c .before .before .before .before .before .before .before .before .before .at .ensures)) (c .before .before .before .before .before .before .before .if2 .left), le-leb 6 (length (c .before .before .before .before .before .before .before .before .before .before .before .before .args .s .now)) (c .before .before .before .before .before .before .if3 .left), on (c .before .before .before .before .before .sdm-rights .ensures) (c .before .before .before .before .if4 .left), on (c .before .before .before .meta-mirrors .ensures) (c .before .before .if5 .left), off (c .before .meta-off .ensures) (c .if6 .taken)) refl
-
-enc-needs-requires : tie.Need-enc-needs-requires
-enc-needs-requires c κs = search needs
-
-returns-7 : tie.Need-returns-7
-unfolding found sdmRules
-returns-7 c = rw (le-leb 4 (length (c .before .before .before .before .before .before .before .before .before .before .before .before .before .before .args .s .now)) (c .before .before .before .before .before .before .before .before .before .before .before .before .if1 .left), on (c .before .before .before .before .before .before .before .before .before .before .sdm-options-bits .ensures ∙ ap sdmOptionsBits (c .before .before .before .before .before .before .before .before .before .before .before .at .ensures)) (c .before .before .before .before .before .before .before .before .before .if2 .left), le-leb 6 (length (c .before .before .before .before .before .before .before .before .before .before .before .before .before .before .args .s .now)) (c .before .before .before .before .before .before .before .before .if3 .left), on (c .before .before .before .before .before .before .before .sdm-rights .ensures) (c .before .before .before .before .before .before .if4 .left), on (c .before .before .before .before .before .meta-mirrors .ensures) (c .before .before .before .before .if5 .left), on (c .before .before .before .meta-off .ensures) (c .before .before .if6 .left), off (c .before .enc-needs .ensures) (c .if7 .taken)) refl
-
-size-of-requires : tie.Need-size-of-requires
-size-of-requires c κs = search needs
-
-returns-8 : tie.Need-returns-8
-unfolding found sdmRules
-returns-8 c = rw (le-leb 4 (length (c .before .before .before .before .before .before .before .before .before .before .before .before .before .before .before .before .args .s .now)) (c .before .before .before .before .before .before .before .before .before .before .before .before .before .before .if1 .left), on (c .before .before .before .before .before .before .before .before .before .before .before .before .sdm-options-bits .ensures ∙ ap sdmOptionsBits (c .before .before .before .before .before .before .before .before .before .before .before .before .before .at .ensures)) (c .before .before .before .before .before .before .before .before .before .before .before .if2 .left), le-leb 6 (length (c .before .before .before .before .before .before .before .before .before .before .before .before .before .before .before .before .args .s .now)) (c .before .before .before .before .before .before .before .before .before .before .if3 .left), on (c .before .before .before .before .before .before .before .before .before .sdm-rights .ensures) (c .before .before .before .before .before .before .before .before .if4 .left), on (c .before .before .before .before .before .before .before .meta-mirrors .ensures) (c .before .before .before .before .before .before .if5 .left), on (c .before .before .before .before .before .meta-off .ensures) (c .before .before .before .before .if6 .left), on (c .before .before .before .enc-needs .ensures) (c .before .before .if7 .left), ap (λ n. eqb (length (c .before .before .before .before .before .before .before .before .before .before .before .before .before .before .before .before .args .s .now)) n) (sym (c .before .size-of .ensures)) ∙ ne-eqb _ _ (c .if8 .taken)) refl
 
 places-requires : tie.Need-places-requires
 places-requires c κs = search needs
@@ -68,29 +17,89 @@ places-requires c κs = search needs
 positions-requires : tie.Need-positions-requires
 positions-requires c κs = search needs
 
-returns-9 : tie.Need-returns-9
-unfolding found sdmRules
-returns-9 c = rw (le-leb 4 (length (c .before .before .before .before .before .before .before .before .before .before .before .before .before .before .before .before .before .before .args .s .now)) (c .before .before .before .before .before .before .before .before .before .before .before .before .before .before .before .before .if1 .left), on (c .before .before .before .before .before .before .before .before .before .before .before .before .before .before .sdm-options-bits .ensures ∙ ap sdmOptionsBits (c .before .before .before .before .before .before .before .before .before .before .before .before .before .before .before .at .ensures)) (c .before .before .before .before .before .before .before .before .before .before .before .before .before .if2 .left), le-leb 6 (length (c .before .before .before .before .before .before .before .before .before .before .before .before .before .before .before .before .before .before .args .s .now)) (c .before .before .before .before .before .before .before .before .before .before .before .before .if3 .left), on (c .before .before .before .before .before .before .before .before .before .before .before .sdm-rights .ensures) (c .before .before .before .before .before .before .before .before .before .before .if4 .left), on (c .before .before .before .before .before .before .before .before .before .meta-mirrors .ensures) (c .before .before .before .before .before .before .before .before .if5 .left), on (c .before .before .before .before .before .before .before .meta-off .ensures) (c .before .before .before .before .before .before .if6 .left), on (c .before .before .before .before .before .enc-needs .ensures) (c .before .before .before .before .if7 .left), ap (λ n. eqb (length (c .before .before .before .before .before .before .before .before .before .before .before .before .before .before .before .before .before .before .args .s .now)) n) (sym (c .before .before .before .size-of .ensures)) ∙ eq-eqb _ _ (c .before .before .if8 .left)) (c .positions .ensures ∙ ap (λ p. found (positionRules (record { head = c .before .before .before .before .before .before .before .before .before .before .before .before .before .before .before .before .before .before .args .h; places = p }))) (c .before .places .ensures))
+size-of-requires : tie.Need-size-of-requires
+size-of-requires c κs = search needs
+
+there-requires : tie.Need-there-requires
+there-requires c κs = search needs
+
+enc-needs-requires : tie.Need-enc-needs-requires
+enc-needs-requires c κs = search needs
+
+right-requires : tie.Need-right-requires
+right-requires c κs = search needs
+
+meta-off-requires : tie.Need-meta-off-requires
+meta-off-requires c κs = search needs
+
+right-requires-2 : tie.Need-right-requires-2
+right-requires-2 c κs = search needs
+
+meta-mirrors-requires : tie.Need-meta-mirrors-requires
+meta-mirrors-requires c κs = search needs
+
+right-requires-3 : tie.Need-right-requires-3
+right-requires-3 c κs = search needs
+
+sdm-rights-requires : tie.Need-sdm-rights-requires
+sdm-rights-requires c κs = search needs
+
+right-requires-4 : tie.Need-right-requires-4
+right-requires-4 c κs = search needs
+
+there-requires-2 : tie.Need-there-requires-2
+there-requires-2 c κs = search needs
+
+at-requires : tie.Need-at-requires
+at-requires c κs = search needs
+
+sdm-options-bits-requires : tie.Need-sdm-options-bits-requires
+sdm-options-bits-requires c κs = search needs
+
+right-requires-5 : tie.Need-right-requires-5
+right-requires-5 c κs = search needs
+
+there-requires-3 : tie.Need-there-requires-3
+there-requires-3 c κs = search needs
+
+returns : tie.Need-returns
+unfolding sdmRules
+returns c =
+    let d = c .before .before .before .before .before .before .before in
+    let g = d .before .before .before .before .before .before .before .before .before in
+    let h = g .before .before .args .h in
+    let s = g .before .before .args .s .now in
+    let n = length s in
+    let f₉ : Finds (d .before .before .before .before .before .before .before .before .positions .result) (positionRules (record { head = h; places = placesIn s h })) =
+    record { is = d .before .before .before .before .before .before .before .before .positions .ensures ∙ ap (λ p. found (positionRules (record { head = h; places = p }))) (g .places .ensures) } in
+    let f₈ = whole Whole (ap (λ k. eqb n k) (d .before .before .before .before .before .before .before .size-of .ensures)) f₉ (d .before .before .before .before .before .before .there .ensures) in
+    let f₇ = checked EncNeeds (d .before .before .before .before .before .enc-needs .ensures) f₈ (d .before .before .before .before .right .ensures) in
+    let f₆ = checked MetaOff (d .before .before .before .meta-off .ensures) f₇ (d .before .before .right2 .ensures) in
+    let f₅ = checked MetaMirrors (d .before .meta-mirrors .ensures) f₆ (d .right3 .ensures) in
+    let f₄ = checked SdmRights (c .before .before .before .before .before .before .sdm-rights .ensures) f₅ (c .before .before .before .before .before .right4 .ensures) in
+    let f₃ = whole SdmRightsBytes refl f₄ (c .before .before .before .before .there2 .ensures) in
+    let o = c .before .before .sdm-options-bits .ensures ∙ ap sdmOptionsBits (c .before .before .before .at .ensures) in
+    whole SdmOptionsByte refl (checked SdmOptionsBits o f₃ (c .before .right5 .ensures)) (c .there3 .ensures) .is
 
 pub sdm-broken-spec : {M : Type 1} → statement M
 sdm-broken-spec =
     tie.close
     (tie.spec
-    returns
-    at-requires
-    sdm-options-bits-requires
-    returns-2
-    returns-3
-    sdm-rights-requires
-    returns-4
-    meta-mirrors-requires
-    returns-5
-    meta-off-requires
-    returns-6
-    enc-needs-requires
-    returns-7
-    size-of-requires
-    returns-8
     places-requires
     positions-requires
-    returns-9)
+    size-of-requires
+    there-requires
+    enc-needs-requires
+    right-requires
+    meta-off-requires
+    right-requires-2
+    meta-mirrors-requires
+    right-requires-3
+    sdm-rights-requires
+    right-requires-4
+    there-requires-2
+    at-requires
+    sdm-options-bits-requires
+    right-requires-5
+    there-requires-3
+    returns)
