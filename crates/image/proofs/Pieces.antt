@@ -8,7 +8,7 @@ use lib.Seq.{getD-drop, getD-take, take-append-seam, drop-append-add, drop-drop,
 use Rattle.base.specs.Bytes.{byteAt, laid, over, tab, number, low, AllBytes}
 use Rattle.base.proofs.Bytes.{Holds, more, laid-whole, laid-length, tab-length, tab-at, take-bytes, drop-bytes}
 use Rattle.base.proofs.Numbers.{low-number}
-use Rattle.image.specs.Image.{join, part}
+use Rattle.image.specs.Image.{join, bytesFrom}
 
 -- the widths of pieces, and the place behind them
 abbrev pub lengths : List (List ℕ) → List ℕ
@@ -65,7 +65,7 @@ laid-all ws ps b e h =
 
 -- ---- reading
 -- the piece at index k of those that were joined
-piece-at : (ps : List (List ℕ)) (k : ℕ) → part (join ps) (sum (take k (lengths ps))) (getD (lengths ps) k 0) ≡ getD ps k []
+piece-at : (ps : List (List ℕ)) (k : ℕ) → bytesFrom (join ps) (sum (take k (lengths ps))) (getD (lengths ps) k 0) ≡ getD ps k []
 unfolding join
 piece-at [] zero = refl
 piece-at [] (suc k) = refl
@@ -73,64 +73,64 @@ piece-at (p ∷ ps) zero = take-append-seam p (join ps)
 piece-at (p ∷ ps) (suc k) =
     ap (λ s. take (getD (lengths ps) k 0) s) (drop-append-add p (join ps) (sum (take k (lengths ps)))) ∙ piece-at ps k
 
-pub piece : (ws : List ℕ) (ps : List (List ℕ)) → lengths ps ≡ ws → (k : ℕ) → part (join ps) (sum (take k ws)) (getD ws k 0) ≡ getD ps k []
-piece ws ps e k = subst (λ v. part (join ps) (sum (take k v)) (getD v k 0) ≡ getD ps k []) e (piece-at ps k)
+pub piece : (ws : List ℕ) (ps : List (List ℕ)) → lengths ps ≡ ws → (k : ℕ) → bytesFrom (join ps) (sum (take k ws)) (getD ws k 0) ≡ getD ps k []
+piece ws ps e k = subst (λ v. bytesFrom (join ps) (sum (take k v)) (getD v k 0) ≡ getD ps k []) e (piece-at ps k)
 
 -- the pieces of given widths from i on
 abbrev pub cuts : List ℕ → ℕ → List ℕ → List (List ℕ)
 cuts [] i s = []
-cuts (w ∷ ws) i s = part s i w ∷ cuts ws (i + w) s
+cuts (w ∷ ws) i s = bytesFrom s i w ∷ cuts ws (i + w) s
 
 -- joined they are what was cut
-join-cuts : (ws : List ℕ) (i : ℕ) (s : List ℕ) → join (cuts ws i s) ≡ part s i (sum ws)
+join-cuts : (ws : List ℕ) (i : ℕ) (s : List ℕ) → join (cuts ws i s) ≡ bytesFrom s i (sum ws)
 unfolding join
 join-cuts [] i s = refl
 join-cuts (w ∷ ws) i s =
-    ap (λ r. part s i w ++ r) (join-cuts ws (i + w) s ∙ ap (λ r. take (sum ws) r) (sym (drop-drop w i s)))
+    ap (λ r. bytesFrom s i w ++ r) (join-cuts ws (i + w) s ∙ ap (λ r. take (sum ws) r) (sym (drop-drop w i s)))
     ∙ sym (take-add w (sum ws) (drop i s))
 
 pub cut-join : (ws : List ℕ) (s : List ℕ) → sum ws ≡ length s → join (cuts ws 0 s) ≡ s
 cut-join ws s e = join-cuts ws 0 s ∙ ap (λ n. take n s) e ∙ take-length s
 
--- ---- a part
-pub part-length : (s : List ℕ) (i n : ℕ) → i + n ≤ length s → length (part s i n) ≡ n
-part-length s i n h = length-take-le n (drop i s) (rw (length-drop i s) (omega arith))
+-- ---- bytes from an index on
+pub bytes-from-length : (s : List ℕ) (i n : ℕ) → i + n ≤ length s → length (bytesFrom s i n) ≡ n
+bytes-from-length s i n h = length-take-le n (drop i s) (rw (length-drop i s) (omega arith))
 
-pub part-bytes : (s : List ℕ) (i n : ℕ) → AllBytes s → AllBytes (part s i n)
-part-bytes s i n h = take-bytes n (drop i s) (drop-bytes i s h)
+pub bytes-from-bytes : (s : List ℕ) (i n : ℕ) → AllBytes s → AllBytes (bytesFrom s i n)
+bytes-from-bytes s i n h = take-bytes n (drop i s) (drop-bytes i s h)
 
 -- its bytes one by one
-pub part-at : (s : List ℕ) (i n j : ℕ) → j < n → byteAt (part s i n) j ≡ byteAt s (i + j)
-part-at s i n j k = getD-take n (drop i s) j 0 k ∙ getD-drop i s j 0
+pub bytes-from-one : (s : List ℕ) (i n j : ℕ) → j < n → byteAt (bytesFrom s i n) j ≡ byteAt s (i + j)
+bytes-from-one s i n j k = getD-take n (drop i s) j 0 k ∙ getD-drop i s j 0
 
-pub part-tab : (s : List ℕ) (i n : ℕ) → i + n ≤ length s → part s i n ≡ tab n (λ j. byteAt s (i + j))
-part-tab s i n h =
-    ext-getD 0 (part s i n) (tab n (λ j. byteAt s (i + j))) (part-length s i n h ∙ sym (tab-length n (λ j. byteAt s (i + j))))
-    (λ j k. at j (subst (λ m. j < m) (part-length s i n h) k))
+pub bytes-from-tab : (s : List ℕ) (i n : ℕ) → i + n ≤ length s → bytesFrom s i n ≡ tab n (λ j. byteAt s (i + j))
+bytes-from-tab s i n h =
+    ext-getD 0 (bytesFrom s i n) (tab n (λ j. byteAt s (i + j))) (bytes-from-length s i n h ∙ sym (tab-length n (λ j. byteAt s (i + j))))
+    (λ j k. at j (subst (λ m. j < m) (bytes-from-length s i n h) k))
   where
-    at : (j : ℕ) → j < n → byteAt (part s i n) j ≡ byteAt (tab n (λ j. byteAt s (i + j))) j
-    at j k = part-at s i n j k ∙ sym (tab-at 0 n (λ j. byteAt s (i + j)) j k)
+    at : (j : ℕ) → j < n → byteAt (bytesFrom s i n) j ≡ byteAt (tab n (λ j. byteAt s (i + j))) j
+    at j k = bytes-from-one s i n j k ∙ sym (tab-at 0 n (λ j. byteAt s (i + j)) j k)
 
 -- laid over an array of its length
-pub part-laid : (s : List ℕ) (i n : ℕ) (b : List ℕ) → i + n ≤ length s → length b ≡ n → laid (part s i n) 0 b ≡ part s i n
-part-laid s i n b h e = laid-whole (part s i n) b (part-length s i n h ∙ sym e)
+pub bytes-from-laid : (s : List ℕ) (i n : ℕ) (b : List ℕ) → i + n ≤ length s → length b ≡ n → laid (bytesFrom s i n) 0 b ≡ bytesFrom s i n
+bytes-from-laid s i n b h e = laid-whole (bytesFrom s i n) b (bytes-from-length s i n h ∙ sym e)
 
 -- the bytes of the number that they stand for
-pub part-low : (s : List ℕ) (i n : ℕ) → AllBytes s → i + n ≤ length s → low n (number (part s i n)) ≡ part s i n
-part-low s i n a h =
-    subst (λ m. low m (number (part s i n)) ≡ part s i n) (part-length s i n h) (low-number (part s i n) (part-bytes s i n a))
+pub bytes-from-low : (s : List ℕ) (i n : ℕ) → AllBytes s → i + n ≤ length s → low n (number (bytesFrom s i n)) ≡ bytesFrom s i n
+bytes-from-low s i n a h =
+    subst (λ m. low m (number (bytesFrom s i n)) ≡ bytesFrom s i n) (bytes-from-length s i n h) (low-number (bytesFrom s i n) (bytes-from-bytes s i n a))
 
 -- a number from its bytes
 pub number-two : (s : List ℕ) (i a b : ℕ) → i + 2 ≤ length s → a ≡ byteAt s i → b ≡ byteAt s (i + 1)
-    → a + 256 * b ≡ number (part s i 2)
+    → a + 256 * b ≡ number (bytesFrom s i 2)
 unfolding number
 number-two s i a b h p q =
     let z : byteAt s (i + 0) ≡ byteAt s i = ap (λ k. byteAt s k) (omega arith) in
-    omega arith ∙ sym (ap number (part-tab s i 2 h))
+    omega arith ∙ sym (ap number (bytes-from-tab s i 2 h))
 
 pub number-four : (s : List ℕ) (i a b c d : ℕ) → i + 4 ≤ length s → a ≡ byteAt s i → b ≡ byteAt s (i + 1) → c ≡ byteAt s (i + 2)
-    → d ≡ byteAt s (i + 3) → a + 256 * (b + 256 * (c + 256 * d)) ≡ number (part s i 4)
+    → d ≡ byteAt s (i + 3) → a + 256 * (b + 256 * (c + 256 * d)) ≡ number (bytesFrom s i 4)
 unfolding number
 number-four s i a b c d h p q r t =
     let z : byteAt s (i + 0) ≡ byteAt s i = ap (λ k. byteAt s k) (omega arith) in
-    omega arith ∙ sym (ap number (part-tab s i 4 h))
+    omega arith ∙ sym (ap number (bytes-from-tab s i 4 h))

@@ -21,9 +21,10 @@ use Rattle.state.specs.declared.Tapping.{Tapping}
 use Rattle.state.specs.declared.Tag.{Tag}
 use Rattle.image.specs.declared.Found.{Found}
 use Rattle.image.specs.declared.Found.the-variants.{Whole, WrongLength, WrongVersion, NotABoolean}
-use Rattle.image.specs.Image.{join, part, bit, flag, filePieces, secretPieces, livePieces, pendingPieces, placeBytes, tapPieces, tagPieces, imageOf, filesIn, secretsIn, liveIn, pendingIn, placeIn, tapIn, tagIn}
+use Rattle.image.specs.Image.{join, bytesFrom, flagByte, flag, filePieces, secretPieces, livePieces, pendingPieces, placeBytes}
+use Rattle.image.specs.Image.{tapPieces, tagPieces, imageOf, filesIn, secretsIn, liveIn, pendingIn, placeIn, tapIn, tagIn}
 use Rattle.image.specs.Answers.{bitsAt, booleans, rightLength, whole, refusedAs, readIn}
-use Rattle.image.proofs.Pieces.{lengths, sum, joined-length, piece, cut-join, part-length, part-bytes, part-at, part-tab, part-low}
+use Rattle.image.proofs.Pieces.{lengths, sum, joined-length, piece, cut-join, bytes-from-length, bytes-from-bytes, bytes-from-one, bytes-from-tab, bytes-from-low}
 
 -- ---- what the code's types say of a state: each array has its length, and the counters fit
 pub record Filed (f : Files) : Type 0 where
@@ -56,13 +57,13 @@ pub record Shaped (t : Tag) : Type 0 where
   pub counter : t .tap .counter < 4294967296
 
 -- ---- from a state to its image and back
-flag-bit : (b : Bool) → flag (bit b) ≡ b
-flag-bit true = refl
-flag-bit false = refl
+flag-of-byte : (b : Bool) → flag (flagByte b) ≡ b
+flag-of-byte true = refl
+flag-of-byte false = refl
 
-bit-right : (b : Bool) → leb (bit b) 1 ≡ true
-bit-right true = refl
-bit-right false = refl
+flag-byte-right : (b : Bool) → leb (flagByte b) 1 ≡ true
+flag-byte-right true = refl
+flag-byte-right false = refl
 
 module _ (f : Files) (h : Filed f) where
   pub file-widths : lengths (filePieces f) ≡ 416 ∷ 81 ∷ 3 ∷ []
@@ -90,7 +91,7 @@ module _ (l : Live) (h : Lives l) where
   live-back =
       let p = piece _ (livePieces l) live-widths in
       λ i. record {
-        on = flag-bit (l .on) i;
+        on = flag-of-byte (l .on) i;
         key = l .key;
         enc = p 1 i;
         mac = p 2 i;
@@ -108,8 +109,8 @@ module _ (l : Pending) (h : Pends l) where
   pending-back =
       let p = piece _ (pendingPieces l) pending-widths in
       λ i. record {
-        on = flag-bit (l .on) i;
-        first = flag-bit (l .first) i;
+        on = flag-of-byte (l .on) i;
+        first = flag-of-byte (l .first) i;
         key = l .key;
         «rnd_b» = p 1 i;
         cap = p 2 i;
@@ -119,7 +120,7 @@ module _ (l : Pending) (h : Pends l) where
 
 place-back : (p : Place) → placeIn (placeBytes p) ≡ p
 unfolding placeIn
-place-back p = λ i. record { application = flag-bit (p .application) i; file = p .file }
+place-back p = λ i. record { application = flag-of-byte (p .application) i; file = p .file }
 
 pub tap-widths : (t : Tapping) → lengths (tapPieces t) ≡ 2 ∷ 4 ∷ []
 unfolding low
@@ -129,8 +130,8 @@ tap-back : (t : Tapping) → t .counter < 4294967296 → tapIn (join (tapPieces 
 unfolding tapIn join
 tap-back t h =
     λ i. record {
-      on = flag-bit (t .on) i;
-      iso = flag-bit (t .iso) i;
+      on = flag-of-byte (t .on) i;
+      iso = flag-of-byte (t .iso) i;
       counter = (ap number (piece _ (tapPieces t) (tap-widths t) 1) ∙ number-low 4 (t .counter) h) i;
     }
 
@@ -144,7 +145,7 @@ module _ (t : Tag) (h : Shaped t) where
       let q = joined-length (tapPieces (t .tap)) _ (tap-widths (t .tap)) in
       λ i. 1 ∷ h .uid i ∷ f i ∷ s i ∷ l i ∷ p i ∷ 2 ∷ q i ∷ []
 
-  tag-piece : (k : ℕ) → part (imageOf t) (sum (take k (1 ∷ 7 ∷ 500 ∷ 85 ∷ 40 ∷ 31 ∷ 2 ∷ 6 ∷ []))) (getD (1 ∷ 7 ∷ 500 ∷ 85 ∷ 40 ∷ 31 ∷ 2 ∷ 6 ∷ []) k 0) ≡ getD (tagPieces t) k []
+  tag-piece : (k : ℕ) → bytesFrom (imageOf t) (sum (take k (1 ∷ 7 ∷ 500 ∷ 85 ∷ 40 ∷ 31 ∷ 2 ∷ 6 ∷ []))) (getD (1 ∷ 7 ∷ 500 ∷ 85 ∷ 40 ∷ 31 ∷ 2 ∷ 6 ∷ []) k 0) ≡ getD (tagPieces t) k []
   unfolding imageOf
   tag-piece = piece _ (tagPieces t) tag-widths
 
@@ -162,21 +163,21 @@ module _ (t : Tag) (h : Shaped t) where
         tap = (ap tapIn (tag-piece 7) ∙ tap-back (t .tap) (h .counter)) i;
       }
 
-  bit-byte : (i n j k : ℕ) (b : Bool) → j < n → part (imageOf t) i n ≡ getD (tagPieces t) k [] → byteAt (getD (tagPieces t) k []) j ≡ bit b
+  flag-in-image : (i n j k : ℕ) (b : Bool) → j < n → bytesFrom (imageOf t) i n ≡ getD (tagPieces t) k [] → byteAt (getD (tagPieces t) k []) j ≡ flagByte b
       → leb (byteAt (imageOf t) (i + j)) 1 ≡ true
-  bit-byte i n j k b h p e =
-      ap (λ v. leb v 1) (sym (part-at (imageOf t) i n j h) ∙ ap (λ x. byteAt x j) p ∙ e) ∙ bit-right b
+  flag-in-image i n j k b h p e =
+      ap (λ v. leb v 1) (sym (bytes-from-one (imageOf t) i n j h) ∙ ap (λ x. byteAt x j) p ∙ e) ∙ flag-byte-right b
 
   image-bits : bitsAt (imageOf t) booleans ≡ true
   unfolding bitsAt join
   image-bits =
       rw (
-        bit-byte 593 40 0 4 (t .live .on) (lit< tt) (tag-piece 4) refl,
-        bit-byte 633 31 0 5 (t .pending .on) (lit< tt) (tag-piece 5) refl,
-        bit-byte 633 31 1 5 (t .pending .first) (lit< tt) (tag-piece 5) refl,
-        bit-byte 664 2 0 6 (t .place .application) (lit< tt) (tag-piece 6) refl,
-        bit-byte 666 6 0 7 (t .tap .on) (lit< tt) (tag-piece 7) refl,
-        bit-byte 666 6 1 7 (t .tap .iso) (lit< tt) (tag-piece 7) refl,
+        flag-in-image 593 40 0 4 (t .live .on) (lit< tt) (tag-piece 4) refl,
+        flag-in-image 633 31 0 5 (t .pending .on) (lit< tt) (tag-piece 5) refl,
+        flag-in-image 633 31 1 5 (t .pending .first) (lit< tt) (tag-piece 5) refl,
+        flag-in-image 664 2 0 6 (t .place .application) (lit< tt) (tag-piece 6) refl,
+        flag-in-image 666 6 0 7 (t .tap .on) (lit< tt) (tag-piece 7) refl,
+        flag-in-image 666 6 1 7 (t .tap .iso) (lit< tt) (tag-piece 7) refl,
       )
       refl
 
@@ -195,10 +196,10 @@ module _ (t : Tag) (h : Shaped t) where
       rw (eq-eqb (length (imageOf t)) 672 image-length, eq-eqb (byteAt (imageOf t) 0) 1 first-byte, image-bits) (ap whole image-read)
 
 -- ---- from bytes to a state and back
-bit-flag : (n : ℕ) → n ≤ 1 → bit (flag n) ≡ n
-bit-flag zero h = refl
-bit-flag (suc zero) h = refl
-bit-flag (suc (suc n)) h = absurd (omega arith)
+byte-of-flag : (n : ℕ) → n ≤ 1 → flagByte (flag n) ≡ n
+byte-of-flag zero h = refl
+byte-of-flag (suc zero) h = refl
+byte-of-flag (suc (suc n)) h = absurd (omega arith)
 
 files-kept : (x : List ℕ) → length x ≡ 500 → join (filePieces (filesIn x)) ≡ x
 unfolding filesIn
@@ -211,27 +212,30 @@ secrets-kept x l = cut-join (80 ∷ 5 ∷ []) x (sym l)
 live-kept : (x : List ℕ) → length x ≡ 40 → AllBytes x → byteAt x 0 ≤ 1 → join (livePieces (liveIn x)) ≡ x
 unfolding liveIn
 live-kept x l a b =
-    let head : bit (flag (byteAt x 0)) ∷ byteAt x 1 ∷ [] ≡ part x 0 2 = (λ i. bit-flag (byteAt x 0) b i ∷ byteAt x 1 ∷ []) ∙ sym (part-tab x 0 2 (omega arith)) in
-    (λ i. join (head i ∷ part x 2 16 ∷ part x 18 16 ∷ part x 34 4 ∷ part-low x 38 2 a (omega arith) i ∷ []))
+    let head : flagByte (flag (byteAt x 0)) ∷ byteAt x 1 ∷ [] ≡ bytesFrom x 0 2 = (λ i. byte-of-flag (byteAt x 0) b i ∷ byteAt x 1 ∷ []) ∙ sym (bytes-from-tab x 0 2 (omega arith)) in
+    (λ i. join (head i ∷ bytesFrom x 2 16 ∷ bytesFrom x 18 16 ∷ bytesFrom x 34 4 ∷ bytes-from-low x 38 2 a (omega arith) i ∷ []))
     ∙ cut-join (2 ∷ 16 ∷ 16 ∷ 4 ∷ 2 ∷ []) x (sym l)
 
 pending-kept : (x : List ℕ) → length x ≡ 31 → AllBytes x → byteAt x 0 ≤ 1 → byteAt x 1 ≤ 1 → join (pendingPieces (pendingIn x)) ≡ x
 unfolding pendingIn
 pending-kept x l a b d =
-    let head : bit (flag (byteAt x 0)) ∷ bit (flag (byteAt x 1)) ∷ byteAt x 2 ∷ [] ≡ part x 0 3 = (λ i. bit-flag (byteAt x 0) b i ∷ bit-flag (byteAt x 1) d i ∷ byteAt x 2 ∷ []) ∙ sym (part-tab x 0 3 (omega arith)) in
-    (λ i. join (head i ∷ part x 3 16 ∷ part x 19 6 ∷ part x 25 4 ∷ part-low x 29 2 a (omega arith) i ∷ []))
+    let head : flagByte (flag (byteAt x 0)) ∷ flagByte (flag (byteAt x 1)) ∷ byteAt x 2 ∷ [] ≡ bytesFrom x 0 3 =
+    (λ i. byte-of-flag (byteAt x 0) b i ∷ byte-of-flag (byteAt x 1) d i ∷ byteAt x 2 ∷ [])
+    ∙ sym (bytes-from-tab x 0 3 (omega arith)) in
+    (λ i. join (head i ∷ bytesFrom x 3 16 ∷ bytesFrom x 19 6 ∷ bytesFrom x 25 4 ∷ bytes-from-low x 29 2 a (omega arith) i ∷ []))
     ∙ cut-join (3 ∷ 16 ∷ 6 ∷ 4 ∷ 2 ∷ []) x (sym l)
 
 place-kept : (x : List ℕ) → length x ≡ 2 → byteAt x 0 ≤ 1 → placeBytes (placeIn x) ≡ x
 unfolding placeIn
 place-kept x l b =
-    (λ i. bit-flag (byteAt x 0) b i ∷ byteAt x 1 ∷ []) ∙ sym (part-tab x 0 2 (omega arith)) ∙ ap (λ n. take n x) (sym l) ∙ take-length x
+    (λ i. byte-of-flag (byteAt x 0) b i ∷ byteAt x 1 ∷ []) ∙ sym (bytes-from-tab x 0 2 (omega arith)) ∙ ap (λ n. take n x) (sym l) ∙ take-length x
 
 tap-kept : (x : List ℕ) → length x ≡ 6 → AllBytes x → byteAt x 0 ≤ 1 → byteAt x 1 ≤ 1 → join (tapPieces (tapIn x)) ≡ x
 unfolding tapIn
 tap-kept x l a b d =
-    let head : bit (flag (byteAt x 0)) ∷ bit (flag (byteAt x 1)) ∷ [] ≡ part x 0 2 = (λ i. bit-flag (byteAt x 0) b i ∷ bit-flag (byteAt x 1) d i ∷ []) ∙ sym (part-tab x 0 2 (omega arith)) in
-    (λ i. join (head i ∷ part-low x 2 4 a (omega arith) i ∷ [])) ∙ cut-join (2 ∷ 4 ∷ []) x (sym l)
+    let head : flagByte (flag (byteAt x 0)) ∷ flagByte (flag (byteAt x 1)) ∷ [] ≡ bytesFrom x 0 2 =
+    (λ i. byte-of-flag (byteAt x 0) b i ∷ byte-of-flag (byteAt x 1) d i ∷ []) ∙ sym (bytes-from-tab x 0 2 (omega arith)) in
+    (λ i. join (head i ∷ bytes-from-low x 2 4 a (omega arith) i ∷ [])) ∙ cut-join (2 ∷ 4 ∷ []) x (sym l)
 
 bits-below : (s is : List ℕ) → bitsAt s is ≡ true → (k : ℕ) → k < length is → byteAt s (getD is k 0) ≤ 1
 unfolding bitsAt
@@ -253,8 +257,8 @@ none-refused true true false t e = ap is-whole e
 none-refused true false c t e = ap is-whole e
 none-refused false b c t e = ap is-whole e
 
-low-byte : (s : List ℕ) (i n j : ℕ) → j < n → byteAt s (i + j) ≤ 1 → byteAt (part s i n) j ≤ 1
-low-byte s i n j h b = subst (λ m. m ≤ 1) (sym (part-at s i n j h)) b
+low-byte : (s : List ℕ) (i n j : ℕ) → j < n → byteAt s (i + j) ≤ 1 → byteAt (bytesFrom s i n) j ≤ 1
+low-byte s i n j h b = subst (λ m. m ≤ 1) (sym (bytes-from-one s i n j h)) b
 
 -- bytes that hold a state are its image
 pub read-image : (s : List ℕ) → AllBytes s → readIn s .found ≡ Whole → imageOf (tagIn s) ≡ s
@@ -265,12 +269,14 @@ read-image s a e =
     let w′ = and-right (eqb (length s) 672) _ w in
     let v : byteAt s 0 ≡ 1 = eqb-true (byteAt s 0) 1 (and-left _ _ w′) in
     let bits = bits-below s booleans (and-right (eqb (byteAt s 0) 1) _ w′) in
-    let version : 1 ∷ [] ≡ part s 0 1 = (λ i. sym v i ∷ []) ∙ sym (part-tab s 0 1 (omega arith)) in
-    let f = files-kept (part s 8 500) (part-length s 8 500 (omega arith)) in
-    let k = secrets-kept (part s 508 85) (part-length s 508 85 (omega arith)) in
-    let lv = live-kept (part s 593 40) (part-length s 593 40 (omega arith)) (part-bytes s 593 40 a) (low-byte s 593 40 0 (lit< tt) (bits 0 (lit< tt))) in
-    let pd = pending-kept (part s 633 31) (part-length s 633 31 (omega arith)) (part-bytes s 633 31 a) (low-byte s 633 31 0 (lit< tt) (bits 1 (lit< tt))) (low-byte s 633 31 1 (lit< tt) (bits 2 (lit< tt))) in
-    let pl = place-kept (part s 664 2) (part-length s 664 2 (omega arith)) (low-byte s 664 2 0 (lit< tt) (bits 3 (lit< tt))) in
-    let tp = tap-kept (part s 666 6) (part-length s 666 6 (omega arith)) (part-bytes s 666 6 a) (low-byte s 666 6 0 (lit< tt) (bits 4 (lit< tt))) (low-byte s 666 6 1 (lit< tt) (bits 5 (lit< tt))) in
-    (λ i. join (version i ∷ part s 1 7 ∷ f i ∷ k i ∷ lv i ∷ pd i ∷ pl i ∷ tp i ∷ []))
+    let version : 1 ∷ [] ≡ bytesFrom s 0 1 = (λ i. sym v i ∷ []) ∙ sym (bytes-from-tab s 0 1 (omega arith)) in
+    let f = files-kept (bytesFrom s 8 500) (bytes-from-length s 8 500 (omega arith)) in
+    let k = secrets-kept (bytesFrom s 508 85) (bytes-from-length s 508 85 (omega arith)) in
+    let lv = live-kept (bytesFrom s 593 40) (bytes-from-length s 593 40 (omega arith)) (bytes-from-bytes s 593 40 a) (low-byte s 593 40 0 (lit< tt) (bits 0 (lit< tt))) in
+    let pd = pending-kept (bytesFrom s 633 31) (bytes-from-length s 633 31 (omega arith)) (bytes-from-bytes s 633 31 a)
+    (low-byte s 633 31 0 (lit< tt) (bits 1 (lit< tt))) (low-byte s 633 31 1 (lit< tt) (bits 2 (lit< tt))) in
+    let pl = place-kept (bytesFrom s 664 2) (bytes-from-length s 664 2 (omega arith)) (low-byte s 664 2 0 (lit< tt) (bits 3 (lit< tt))) in
+    let tp = tap-kept (bytesFrom s 666 6) (bytes-from-length s 666 6 (omega arith)) (bytes-from-bytes s 666 6 a)
+    (low-byte s 666 6 0 (lit< tt) (bits 4 (lit< tt))) (low-byte s 666 6 1 (lit< tt) (bits 5 (lit< tt))) in
+    (λ i. join (version i ∷ bytesFrom s 1 7 ∷ f i ∷ k i ∷ lv i ∷ pd i ∷ pl i ∷ tp i ∷ []))
     ∙ cut-join (1 ∷ 7 ∷ 500 ∷ 85 ∷ 40 ∷ 31 ∷ 2 ∷ 6 ∷ []) s (sym l)

@@ -15,6 +15,18 @@ use Rattle.image.specs.declared.Stored.{Stored}
 use Rattle.image.specs.declared.Stored.the-variants.{Written, OtherLength}
 use Rattle.image.specs.Image.{imageLength, imageOf, tagIn}
 
+-- Numbers of the house, those that the C border answers: 0 for a state, 1005 for another length, and 1000 with refusal 3's number
+-- for bytes of the right length that hold none.
+abbrev pub foundNumber : Found → ℕ
+foundNumber Whole = 0
+foundNumber WrongLength = 1005
+foundNumber WrongVersion = 1003
+foundNumber NotABoolean = 1003
+
+abbrev pub storedNumber : Stored → ℕ
+storedNumber Written = 0
+storedNumber OtherLength = 1005
+
 -- the bytes at these places are 0 or 1
 unfoldable pub bitsAt : List ℕ → List ℕ → Bool
 bitsAt s [] = true

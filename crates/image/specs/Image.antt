@@ -20,12 +20,12 @@ join [] = []
 join (p ∷ ps) = p ++ join ps
 
 -- n bytes from i on
-abbrev pub part : List ℕ → ℕ → ℕ → List ℕ
-part s i n = take n (drop i s)
+abbrev pub bytesFrom : List ℕ → ℕ → ℕ → List ℕ
+bytesFrom s i n = take n (drop i s)
 
 -- a Boolean is one byte, 0 or 1
-abbrev pub bit : Bool → ℕ
-bit b = pick b 1 0
+abbrev pub flagByte : Bool → ℕ
+flagByte b = pick b 1 0
 
 abbrev pub flag : ℕ → Bool
 flag n = eqb n 1
@@ -38,16 +38,16 @@ abbrev pub secretPieces : Secrets → List (List ℕ)
 secretPieces s = s .keys ∷ s .versions ∷ []
 
 abbrev pub livePieces : Live → List (List ℕ)
-livePieces l = (bit (l .on) ∷ l .key ∷ []) ∷ l .enc ∷ l .mac ∷ l .ti ∷ low 2 (l .counter) ∷ []
+livePieces l = (flagByte (l .on) ∷ l .key ∷ []) ∷ l .enc ∷ l .mac ∷ l .ti ∷ low 2 (l .counter) ∷ []
 
 abbrev pub pendingPieces : Pending → List (List ℕ)
-pendingPieces p = (bit (p .on) ∷ bit (p .first) ∷ p .key ∷ []) ∷ p .«rnd_b» ∷ p .cap ∷ p .ti ∷ low 2 (p .counter) ∷ []
+pendingPieces p = (flagByte (p .on) ∷ flagByte (p .first) ∷ p .key ∷ []) ∷ p .«rnd_b» ∷ p .cap ∷ p .ti ∷ low 2 (p .counter) ∷ []
 
 abbrev pub placeBytes : Place → List ℕ
-placeBytes p = bit (p .application) ∷ p .file ∷ []
+placeBytes p = flagByte (p .application) ∷ p .file ∷ []
 
 abbrev pub tapPieces : Tapping → List (List ℕ)
-tapPieces t = (bit (t .on) ∷ bit (t .iso) ∷ []) ∷ low 4 (t .counter) ∷ []
+tapPieces t = (flagByte (t .on) ∷ flagByte (t .iso) ∷ []) ∷ low 4 (t .counter) ∷ []
 
 abbrev pub tagPieces : Tag → List (List ℕ)
 tagPieces t =
@@ -63,20 +63,20 @@ imageLength = 672
 
 -- ---- reading
 unfoldable pub filesIn : List ℕ → Files
-filesIn s = record { bytes = part s 0 416; rules = part s 416 81; lens = part s 497 3 }
+filesIn s = record { bytes = bytesFrom s 0 416; rules = bytesFrom s 416 81; lens = bytesFrom s 497 3 }
 
 unfoldable pub secretsIn : List ℕ → Secrets
-secretsIn s = record { keys = part s 0 80; versions = part s 80 5 }
+secretsIn s = record { keys = bytesFrom s 0 80; versions = bytesFrom s 80 5 }
 
 unfoldable pub liveIn : List ℕ → Live
 liveIn s =
     record {
       on = flag (byteAt s 0);
       key = byteAt s 1;
-      enc = part s 2 16;
-      mac = part s 18 16;
-      ti = part s 34 4;
-      counter = number (part s 38 2);
+      enc = bytesFrom s 2 16;
+      mac = bytesFrom s 18 16;
+      ti = bytesFrom s 34 4;
+      counter = number (bytesFrom s 38 2);
     }
 
 unfoldable pub pendingIn : List ℕ → Pending
@@ -85,26 +85,26 @@ pendingIn s =
       on = flag (byteAt s 0);
       first = flag (byteAt s 1);
       key = byteAt s 2;
-      «rnd_b» = part s 3 16;
-      cap = part s 19 6;
-      ti = part s 25 4;
-      counter = number (part s 29 2);
+      «rnd_b» = bytesFrom s 3 16;
+      cap = bytesFrom s 19 6;
+      ti = bytesFrom s 25 4;
+      counter = number (bytesFrom s 29 2);
     }
 
 unfoldable pub placeIn : List ℕ → Place
 placeIn s = record { application = flag (byteAt s 0); file = byteAt s 1 }
 
 unfoldable pub tapIn : List ℕ → Tapping
-tapIn s = record { on = flag (byteAt s 0); iso = flag (byteAt s 1); counter = number (part s 2 4) }
+tapIn s = record { on = flag (byteAt s 0); iso = flag (byteAt s 1); counter = number (bytesFrom s 2 4) }
 
 unfoldable pub tagIn : List ℕ → Tag
 tagIn s =
     record {
-      uid = part s 1 7;
-      files = filesIn (part s 8 500);
-      secrets = secretsIn (part s 508 85);
-      live = liveIn (part s 593 40);
-      pending = pendingIn (part s 633 31);
-      place = placeIn (part s 664 2);
-      tap = tapIn (part s 666 6);
+      uid = bytesFrom s 1 7;
+      files = filesIn (bytesFrom s 8 500);
+      secrets = secretsIn (bytesFrom s 508 85);
+      live = liveIn (bytesFrom s 593 40);
+      pending = pendingIn (bytesFrom s 633 31);
+      place = placeIn (bytesFrom s 664 2);
+      tap = tapIn (bytesFrom s 666 6);
     }

@@ -54,7 +54,6 @@ pub fn to_image(tag: Tag, s: &mut [u8]) -> Stored
     if s.len() != 672 {
         return Stored::OtherLength;
     }
-    let bytes = writing::image_of(tag);
-    base::put(&bytes, s, 0);
+    writing::lay_image(tag, s);
     Stored::Written
 }

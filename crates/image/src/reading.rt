@@ -5,7 +5,7 @@ ghost use lib.Dec.{leb};
 ghost use lib.ListN.{length};
 ghost use Rattle.base.specs.Decide.{and};
 ghost use Rattle.base.specs.Bytes.{number};
-ghost use Rattle.image.specs.Image.{part, filesIn, secretsIn, liveIn, pendingIn, placeIn, tapIn, tagIn};
+ghost use Rattle.image.specs.Image.{bytesFrom, filesIn, secretsIn, liveIn, pendingIn, placeIn, tapIn, tagIn};
 ghost use Rattle.image.specs.Answers.{refusedAs, bitsAt, booleans};
 use crate::Found;
 use crate::Read;
@@ -54,7 +54,7 @@ fn wide(x: u8) -> u32
 // The number in two bytes, low byte first.
 fn two(s: &[u8], at: usize) -> u16
     requires { ⌜ at + 2 ≤ length (now s) ⌝ }
-    ensures { λ r. ⌜ r ≡ number (part (now (s .entry)) at 2) ⌝ }
+    ensures { λ r. ⌜ r ≡ number (bytesFrom (now (s .entry)) at 2) ⌝ }
 {
     let a = wide(base::at(s, at));
     let b = wide(base::at(s, at + 1));
@@ -63,7 +63,7 @@ fn two(s: &[u8], at: usize) -> u16
 
 fn four(s: &[u8], at: usize) -> u32
     requires { ⌜ at + 4 ≤ length (now s) ⌝ }
-    ensures { λ r. ⌜ r ≡ number (part (now (s .entry)) at 4) ⌝ }
+    ensures { λ r. ⌜ r ≡ number (bytesFrom (now (s .entry)) at 4) ⌝ }
 {
     let a = wide(base::at(s, at));
     let b = wide(base::at(s, at + 1));
@@ -96,18 +96,34 @@ fn secrets_in(s: &[u8]) -> Secrets
     Secrets { keys, versions }
 }
 
+// 16 bytes from an index on: a session key, or RndB.
+fn block_in(s: &[u8], at: usize) -> [u8; 16]
+    requires { ⌜ at + 16 ≤ length (now s) ⌝ }
+    ensures { λ r. ⌜ r ≡ bytesFrom (now (s .entry)) at 16 ⌝ }
+{
+    let mut r = [0u8; 16];
+    base::put(&s[at..at + 16], &mut r, 0);
+    r
+}
+
+fn ti_in(s: &[u8], at: usize) -> [u8; 4]
+    requires { ⌜ at + 4 ≤ length (now s) ⌝ }
+    ensures { λ r. ⌜ r ≡ bytesFrom (now (s .entry)) at 4 ⌝ }
+{
+    let mut r = [0u8; 4];
+    base::put(&s[at..at + 4], &mut r, 0);
+    r
+}
+
 fn live_in(s: &[u8]) -> Live
     requires { ⌜ length (now s) ≡ 40 ⌝ }
     ensures { λ r. ⌜ r ≡ liveIn (now (s .entry)) ⌝ }
 {
     let on = base::at(s, 0);
     let key = base::at(s, 1);
-    let mut enc = [0u8; 16];
-    let mut mac = [0u8; 16];
-    let mut ti = [0u8; 4];
-    base::put(&s[2..18], &mut enc, 0);
-    base::put(&s[18..34], &mut mac, 0);
-    base::put(&s[34..38], &mut ti, 0);
+    let enc = block_in(s, 2);
+    let mac = block_in(s, 18);
+    let ti = ti_in(s, 34);
     let counter = two(s, 38);
     Live {
         on: on == 1,
@@ -126,12 +142,10 @@ fn pending_in(s: &[u8]) -> Pending
     let on = base::at(s, 0);
     let first = base::at(s, 1);
     let key = base::at(s, 2);
-    let mut rnd_b = [0u8; 16];
+    let rnd_b = block_in(s, 3);
     let mut cap = [0u8; 6];
-    let mut ti = [0u8; 4];
-    base::put(&s[3..19], &mut rnd_b, 0);
     base::put(&s[19..25], &mut cap, 0);
-    base::put(&s[25..29], &mut ti, 0);
+    let ti = ti_in(s, 25);
     let counter = two(s, 29);
     Pending {
         on: on == 1,

@@ -1,7 +1,10 @@
 // The parts of an image, from those of a state.
 ghost use mathlib.Core.Path.{_≡_};
 ghost use mathlib.Core.List.{[], _∷_};
-ghost use Rattle.image.specs.Image.{join, bit, filePieces, secretPieces, livePieces, pendingPieces, tapPieces, imageOf};
+ghost use Prim.Native.Nat.{_+_};
+ghost use lib.ListN.{length};
+ghost use Rattle.base.specs.Bytes.{low};
+ghost use Rattle.image.specs.Image.{join, flagByte, filePieces, secretPieces, livePieces, pendingPieces, tapPieces, imageOf};
 use state::Files;
 use state::Live;
 use state::Pending;
@@ -9,8 +12,8 @@ use state::Secrets;
 use state::Tag;
 use state::Tapping;
 
-fn bit(b: bool) -> u8
-    ensures { λ r. ⌜ r ≡ bit b ⌝ }
+fn flag_byte(b: bool) -> u8
+    ensures { λ r. ⌜ r ≡ flagByte b ⌝ }
 {
     if b { 1 } else { 0 }
 }
@@ -39,48 +42,55 @@ fn secret_bytes(k: Secrets) -> [u8; 85]
     s
 }
 
+// Four pieces and a CmdCtr, one behind the other, over bytes of their length.
+fn with_counter(p: &[u8], q: &[u8], r: &[u8], ti: &[u8], counter: u16, s: &mut [u8])
+    requires { ⌜ length (now p) + (length (now q) + (length (now r) + (length (now ti) + 2))) ≡ length (now s) ⌝ }
+    ensures { λ _. ⌜ now (s .exit) ≡ join (now (p .entry) ∷ now (q .entry) ∷ now (r .entry) ∷ now (ti .entry) ∷ low 2 counter ∷ []) ⌝ }
+{
+    let number = [(counter % 256) as u8, (counter / 256 % 256) as u8];
+    let i = p.len();
+    let j = i + q.len();
+    let k = j + r.len();
+    let l = k + ti.len();
+    base::put(p, s, 0);
+    base::put(q, s, i);
+    base::put(r, s, j);
+    base::put(ti, s, k);
+    base::put(&number, s, l);
+}
+
 fn live_bytes(l: Live) -> [u8; 40]
     ensures { λ r. ⌜ r ≡ join (livePieces l) ⌝ }
 {
-    let on = bit(l.on);
+    let on = flag_byte(l.on);
     let head = [on, l.key];
     let enc = l.enc;
     let mac = l.mac;
     let ti = l.ti;
-    let counter = [(l.counter % 256) as u8, (l.counter / 256 % 256) as u8];
     let mut s = [0u8; 40];
-    base::put(&head, &mut s, 0);
-    base::put(&enc, &mut s, 2);
-    base::put(&mac, &mut s, 18);
-    base::put(&ti, &mut s, 34);
-    base::put(&counter, &mut s, 38);
+    with_counter(&head, &enc, &mac, &ti, l.counter, &mut s);
     s
 }
 
 fn pending_bytes(p: Pending) -> [u8; 31]
     ensures { λ r. ⌜ r ≡ join (pendingPieces p) ⌝ }
 {
-    let on = bit(p.on);
-    let first = bit(p.first);
+    let on = flag_byte(p.on);
+    let first = flag_byte(p.first);
     let head = [on, first, p.key];
     let rnd_b = p.rnd_b;
     let cap = p.cap;
     let ti = p.ti;
-    let counter = [(p.counter % 256) as u8, (p.counter / 256 % 256) as u8];
     let mut s = [0u8; 31];
-    base::put(&head, &mut s, 0);
-    base::put(&rnd_b, &mut s, 3);
-    base::put(&cap, &mut s, 19);
-    base::put(&ti, &mut s, 25);
-    base::put(&counter, &mut s, 29);
+    with_counter(&head, &rnd_b, &cap, &ti, p.counter, &mut s);
     s
 }
 
 fn tap_bytes(t: Tapping) -> [u8; 6]
     ensures { λ r. ⌜ r ≡ join (tapPieces t) ⌝ }
 {
-    let on = bit(t.on);
-    let iso = bit(t.iso);
+    let on = flag_byte(t.on);
+    let iso = flag_byte(t.iso);
     let a = t.counter;
     let b = a / 256;
     let c = b / 256;
@@ -95,47 +105,44 @@ fn tap_bytes(t: Tapping) -> [u8; 6]
     ]
 }
 
-// The version and the parts, one behind the other.
+// The version and the parts, one behind the other, over an image.
 fn joined(
-    uid: [u8; 7],
-    files: [u8; 500],
-    secrets: [u8; 85],
-    live: [u8; 40],
-    pending: [u8; 31],
-    place: [u8; 2],
-    tap: [u8; 6],
-) -> [u8; 672]
-    ensures { λ r. ⌜ r ≡ join ((1 ∷ []) ∷ uid ∷ files ∷ secrets ∷ live ∷ pending ∷ place ∷ tap ∷ []) ⌝ }
+    uid: &[u8],
+    files: &[u8],
+    secrets: &[u8],
+    live: &[u8],
+    pending: &[u8],
+    place: &[u8],
+    tap: &[u8],
+    s: &mut [u8],
+)
+    requires { ⌜ (length (now uid) ≡ 7) × (length (now files) ≡ 500) × (length (now secrets) ≡ 85) × (length (now live) ≡ 40)
+        × (length (now pending) ≡ 31) × (length (now place) ≡ 2) × (length (now tap) ≡ 6) × (length (now s) ≡ 672) ⌝ }
+    ensures { λ _. ⌜ now (s .exit) ≡ join ((1 ∷ []) ∷ now (uid .entry) ∷ now (files .entry) ∷ now (secrets .entry) ∷ now (live .entry)
+        ∷ now (pending .entry) ∷ now (place .entry) ∷ now (tap .entry) ∷ []) ⌝ }
 {
-    let mut s = [0u8; 672];
-    s[0] = 1;
-    base::put(&uid, &mut s, 1);
-    base::put(&files, &mut s, 8);
-    base::put(&secrets, &mut s, 508);
-    base::put(&live, &mut s, 593);
-    base::put(&pending, &mut s, 633);
-    base::put(&place, &mut s, 664);
-    base::put(&tap, &mut s, 666);
-    s
+    base::put(b"\x01", s, 0);
+    base::put(uid, s, 1);
+    base::put(files, s, 8);
+    base::put(secrets, s, 508);
+    base::put(live, s, 593);
+    base::put(pending, s, 633);
+    base::put(place, s, 664);
+    base::put(tap, s, 666);
 }
 
-pub fn image_of(t: Tag) -> [u8; 672]
-    ensures { λ r. ⌜ r ≡ imageOf t ⌝ }
+// The image of a state, over bytes of its length.
+pub fn lay_image(t: Tag, s: &mut [u8])
+    requires { ⌜ length (now s) ≡ 672 ⌝ }
+    ensures { λ _. ⌜ now (s .exit) ≡ imageOf t ⌝ }
 {
-    let application = bit(t.place.application);
+    let application = flag_byte(t.place.application);
+    let place = [application, t.place.file];
     let uid = t.uid;
     let files = file_bytes(t.files);
     let secrets = secret_bytes(t.secrets);
     let live = live_bytes(t.live);
     let pending = pending_bytes(t.pending);
     let tap = tap_bytes(t.tap);
-    joined(
-        uid,
-        files,
-        secrets,
-        live,
-        pending,
-        [application, t.place.file],
-        tap,
-    )
+    joined(&uid, &files, &secrets, &live, &pending, &place, &tap, s);
 }

@@ -2,7 +2,7 @@
 use mathlib.Core.Path.{refl, _∙_}
 use native.Mathlib.Omega.{arith}
 use borrow.Author.Needs.{needs}
-use Rattle.image.proofs.Pieces.{part-laid}
+use Rattle.image.proofs.Pieces.{bytes-from-laid}
 use Rattle.image.specs.Image.{filesIn}
 use Rattle.image.proofs.reading.files_in.Statement.{statement}
 use Rattle.image.proofs.reading.files_in.Tie as tie
@@ -54,7 +54,16 @@ put-requires-3 c κs = search needs
 
 returns : tie.Need-returns
 unfolding filesIn
-returns c = let s = c .before .before .before .before .before .before .before .before .before .before .before .before .before .args .s .now in let l = c .before .before .before .before .before .before .before .before .before .before .before .before .before .pre in λ i. record { bytes = (c .before .before .before .before .before .before .before .before .before .put .ensures ∙ part-laid s 0 416 _ (omega arith) refl) i; rules = (c .before .before .before .before .before .put2 .ensures ∙ part-laid s 416 81 _ (omega arith) refl) i; lens = (c .before .put3 .ensures ∙ part-laid s 497 3 _ (omega arith) refl) i }
+returns c =
+    let c9 = c .before .before .before .before .before .before .before .before .before in
+    let c13 = c9 .before .before .before .before in
+    let s = c13 .args .s .now in
+    let l = c13 .pre in
+    λ i. record {
+      bytes = (c9 .put .ensures ∙ bytes-from-laid s 0 416 _ (omega arith) refl) i;
+      rules = (c .before .before .before .before .before .put2 .ensures ∙ bytes-from-laid s 416 81 _ (omega arith) refl) i;
+      lens = (c .before .put3 .ensures ∙ bytes-from-laid s 497 3 _ (omega arith) refl) i;
+    }
 
 pub files-in-spec : {M : Type 1} → statement M
 files-in-spec =

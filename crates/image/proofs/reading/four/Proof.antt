@@ -57,7 +57,15 @@ add-result-3 : tie.Need-add-result-3
 add-result-3 c = search needs
 
 returns : tie.Need-returns
-returns c = let a = c .before .before .before .before .before .before .before .before .before .args in number-four (a .s .now) (a .at) _ _ _ _ (c .before .before .before .before .before .before .before .before .before .pre) (c .before .before .before .before .before .before .wide .ensures .0 ∙ c .before .before .before .before .before .before .before .at .ensures) (c .before .before .before .before .wide2 .ensures .0 ∙ c .before .before .before .before .before .at2 .ensures) (c .before .before .wide3 .ensures .0 ∙ c .before .before .before .at3 .ensures) (c .wide4 .ensures .0 ∙ c .before .at4 .ensures)
+returns c =
+    let c6 = c .before .before .before .before .before .before in
+    let c7 = c6 .before in
+    let c9 = c7 .before .before in
+    let a = c9 .args in
+    number-four (a .s .now) (a .at) _ _ _ _ (c9 .pre) (c6 .wide .ensures .0 ∙ c7 .at .ensures)
+    (c .before .before .before .before .wide2 .ensures .0 ∙ c .before .before .before .before .before .at2 .ensures)
+    (c .before .before .wide3 .ensures .0 ∙ c .before .before .before .at3 .ensures)
+    (c .wide4 .ensures .0 ∙ c .before .at4 .ensures)
 
 pub four-spec : {M : Type 1} → statement M
 four-spec =

@@ -2,7 +2,7 @@
 use mathlib.Core.Path.{refl, _∙_}
 use native.Mathlib.Omega.{arith}
 use borrow.Author.Needs.{needs}
-use Rattle.image.proofs.Pieces.{part-laid}
+use Rattle.image.proofs.Pieces.{bytes-from-laid}
 use Rattle.image.specs.Image.{flag, pendingIn}
 use Rattle.image.proofs.reading.pending_in.Statement.{statement}
 use Rattle.image.proofs.reading.pending_in.Tie as tie
@@ -15,6 +15,9 @@ at-requires-2 c κs = search needs
 
 at-requires-3 : tie.Need-at-requires-3
 at-requires-3 c κs = search needs
+
+block-in-requires : tie.Need-block-in-requires
+block-in-requires c κs = search needs
 
 sub-put : tie.Need-sub-put
 sub-put c = search needs
@@ -31,42 +34,31 @@ slice-aggregate-put c = search needs
 put-requires : tie.Need-put-requires
 put-requires c κs = search needs
 
-sub-put-2 : tie.Need-sub-put-2
-sub-put-2 c = search needs
-
-part-put-start-2 : tie.Need-part-put-start-2
-part-put-start-2 c = search needs
-
-part-put-end-2 : tie.Need-part-put-end-2
-part-put-end-2 c = search needs
-
-slice-aggregate-put-2 : tie.Need-slice-aggregate-put-2
-slice-aggregate-put-2 c = search needs
-
-put-requires-2 : tie.Need-put-requires-2
-put-requires-2 c κs = search needs
-
-sub-put-3 : tie.Need-sub-put-3
-sub-put-3 c = search needs
-
-part-put-start-3 : tie.Need-part-put-start-3
-part-put-start-3 c = search needs
-
-part-put-end-3 : tie.Need-part-put-end-3
-part-put-end-3 c = search needs
-
-slice-aggregate-put-3 : tie.Need-slice-aggregate-put-3
-slice-aggregate-put-3 c = search needs
-
-put-requires-3 : tie.Need-put-requires-3
-put-requires-3 c κs = search needs
+ti-in-requires : tie.Need-ti-in-requires
+ti-in-requires c κs = search needs
 
 two-requires : tie.Need-two-requires
 two-requires c κs = search needs
 
 returns : tie.Need-returns
 unfolding pendingIn
-returns c = let s = c .before .before .before .before .before .before .before .before .before .before .before .before .before .before .before .before .before .args .s .now in let l = c .before .before .before .before .before .before .before .before .before .before .before .before .before .before .before .before .before .pre in λ i. record { on = flag (c .before .before .before .before .before .before .before .before .before .before .before .before .before .before .before .at .ensures i); first = flag (c .before .before .before .before .before .before .before .before .before .before .before .before .before .before .at2 .ensures i); key = c .before .before .before .before .before .before .before .before .before .before .before .before .before .at3 .ensures i; «rnd_b» = (c .before .before .before .before .before .before .before .before .before .before .put .ensures ∙ part-laid s 3 16 _ (omega arith) refl) i; cap = (c .before .before .before .before .before .before .put2 .ensures ∙ part-laid s 19 6 _ (omega arith) refl) i; ti = (c .before .before .put3 .ensures ∙ part-laid s 25 4 _ (omega arith) refl) i; counter = c .two .ensures i }
+returns c =
+    let c6 = c .before .before .before .before .before .before in
+    let c7 = c6 .before in
+    let c8 = c7 .before in
+    let c9 = c8 .before in
+    let c11 = c9 .before .before in
+    let s = c11 .args .s .now in
+    let l = c11 .pre in
+    λ i. record {
+      on = flag (c9 .at .ensures i);
+      first = flag (c8 .at2 .ensures i);
+      key = c7 .at3 .ensures i;
+      «rnd_b» = c6 .block-in .ensures i;
+      cap = (c .before .before .before .put .ensures ∙ bytes-from-laid s 19 6 _ (omega arith) refl) i;
+      ti = c .before .ti-in .ensures i;
+      counter = c .two .ensures i;
+    }
 
 pub pending-in-spec : {M : Type 1} → statement M
 pending-in-spec =
@@ -75,20 +67,12 @@ pending-in-spec =
     at-requires
     at-requires-2
     at-requires-3
+    block-in-requires
     sub-put
     part-put-start
     part-put-end
     slice-aggregate-put
     put-requires
-    sub-put-2
-    part-put-start-2
-    part-put-end-2
-    slice-aggregate-put-2
-    put-requires-2
-    sub-put-3
-    part-put-start-3
-    part-put-end-3
-    slice-aggregate-put-3
-    put-requires-3
+    ti-in-requires
     two-requires
     returns)

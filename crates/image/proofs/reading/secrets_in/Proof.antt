@@ -2,7 +2,7 @@
 use mathlib.Core.Path.{refl, _∙_}
 use native.Mathlib.Omega.{arith}
 use borrow.Author.Needs.{needs}
-use Rattle.image.proofs.Pieces.{part-laid}
+use Rattle.image.proofs.Pieces.{bytes-from-laid}
 use Rattle.image.specs.Image.{secretsIn}
 use Rattle.image.proofs.reading.secrets_in.Statement.{statement}
 use Rattle.image.proofs.reading.secrets_in.Tie as tie
@@ -39,7 +39,15 @@ put-requires-2 c κs = search needs
 
 returns : tie.Need-returns
 unfolding secretsIn
-returns c = let s = c .before .before .before .before .before .before .before .before .before .args .s .now in let l = c .before .before .before .before .before .before .before .before .before .pre in λ i. record { keys = (c .before .before .before .before .before .put .ensures ∙ part-laid s 0 80 _ (omega arith) refl) i; versions = (c .before .put2 .ensures ∙ part-laid s 80 5 _ (omega arith) refl) i }
+returns c =
+    let c9 = c .before .before .before .before .before .before .before .before .before in
+    let s = c9 .args .s .now in
+    let l = c9 .pre in
+    λ i. record {
+      keys = (c .before .before .before .before .before .put .ensures ∙ bytes-from-laid s 0 80 _ (omega arith) refl)
+          i;
+      versions = (c .before .put2 .ensures ∙ bytes-from-laid s 80 5 _ (omega arith) refl) i;
+    }
 
 pub secrets-in-spec : {M : Type 1} → statement M
 secrets-in-spec =

@@ -2,7 +2,7 @@
 use mathlib.Core.Path.{refl, _∙_}
 use native.Mathlib.Omega.{arith}
 use borrow.Author.Needs.{needs}
-use Rattle.image.proofs.Pieces.{part-laid}
+use Rattle.image.proofs.Pieces.{bytes-from-laid}
 use Rattle.image.specs.Image.{tagIn}
 use Rattle.image.proofs.reading.tag_in.Statement.{statement}
 use Rattle.image.proofs.reading.tag_in.Tie as tie
@@ -96,7 +96,24 @@ tap-in-requires c κs = search needs
 
 returns : tie.Need-returns
 unfolding tagIn
-returns c = let l = c .before .before .before .before .before .before .before .before .before .before .before .before .before .before .before .before .before .pre in λ i. record { uid = (c .before .before .before .before .before .before .before .before .before .before .before .before .before .put .ensures ∙ part-laid (c .before .before .before .before .before .before .before .before .before .before .before .before .before .before .before .before .before .args .s .now) 1 7 _ (omega arith) refl) i; files = c .before .before .before .before .before .before .before .before .before .before .files-in .ensures i; secrets = c .before .before .before .before .before .before .before .before .secrets-in .ensures i; live = c .before .before .before .before .before .before .live-in .ensures i; pending = c .before .before .before .before .pending-in .ensures i; place = c .before .before .place-in .ensures i; tap = c .tap-in .ensures i }
+returns c =
+    let c6 = c .before .before .before .before .before .before in
+    let c8 = c6 .before .before in
+    let c10 = c8 .before .before in
+    let c13 = c10 .before .before .before in
+    let c17 = c13 .before .before .before .before in
+    let l = c17 .pre in
+    λ i. record {
+      uid = (c13 .put .ensures ∙ bytes-from-laid (c17 .args .s .now) 1 7 _ (omega arith) refl) i;
+      files = c10 .files-in .ensures i;
+      secrets = c8 .secrets-in .ensures i;
+      live = c6 .live-in .ensures i;
+      pending =
+          c .before .before .before .before .pending-in .ensures i;
+      place = c .before .before .place-in .ensures i;
+      tap =
+          c .tap-in .ensures i;
+    }
 
 pub tag-in-spec : {M : Type 1} → statement M
 tag-in-spec =

@@ -30,7 +30,11 @@ cast-result : tie.Need-cast-result
 cast-result c = search needs
 
 returns : tie.Need-returns
-returns c = let a = c .before .before .before .before .before .args in number-two (a .s .now) (a .at) _ _ (c .before .before .before .before .before .pre) (c .before .before .wide .ensures .0 ∙ c .before .before .before .at .ensures) (c .wide2 .ensures .0 ∙ c .before .at2 .ensures)
+returns c =
+    let c5 = c .before .before .before .before .before in
+    let a = c5 .args in
+    number-two (a .s .now) (a .at) _ _ (c5 .pre) (c .before .before .wide .ensures .0 ∙ c .before .before .before .at .ensures)
+    (c .wide2 .ensures .0 ∙ c .before .at2 .ensures)
 
 pub two-spec : {M : Type 1} → statement M
 two-spec =

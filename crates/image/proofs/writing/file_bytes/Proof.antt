@@ -37,7 +37,14 @@ put-requires-3 : tie.Need-put-requires-3
 put-requires-3 c κs = search needs
 
 returns : tie.Need-returns
-returns c = let f = c .before .before .before .before .before .before .before .before .before .before .before .before .before .before .before .args .f in let h : Filed f = record { bytes = search needs; rules = search needs; lens = search needs } in (c .before .put3 .ensures ∙ ap (λ s. laid (f .lens) 497 s) (c .before .before .before .before .before .put2 .ensures ∙ ap (λ s. laid (f .rules) 416 s) (c .before .before .before .before .before .before .before .before .before .put .ensures))) ∙ laid-all _ (filePieces f) (replicate 500 0) (file-widths f h) refl
+returns c =
+    let c9 = c .before .before .before .before .before .before .before .before .before in
+    let c15 = c9 .before .before .before .before .before .before in
+    let f = c15 .args .f in
+    let h : Filed f = record { bytes = search needs; rules = search needs; lens = search needs } in
+    (c .before .put3 .ensures ∙ ap (λ s. laid (f .lens) 497 s)
+    (c .before .before .before .before .before .put2 .ensures ∙ ap (λ s. laid (f .rules) 416 s) (c9 .put .ensures)))
+    ∙ laid-all _ (filePieces f) (replicate 500 0) (file-widths f h) refl
 
 pub file-bytes-spec : {M : Type 1} → statement M
 file-bytes-spec =

@@ -28,7 +28,12 @@ put-requires-2 : tie.Need-put-requires-2
 put-requires-2 c κs = search needs
 
 returns : tie.Need-returns
-returns c = let k = c .before .before .before .before .before .before .before .before .before .before .args .k in let h : Locked k = record { keys = search needs; versions = search needs } in (c .before .put2 .ensures ∙ ap (λ s. laid (k .versions) 80 s) (c .before .before .before .before .before .put .ensures)) ∙ laid-all _ (secretPieces k) (replicate 85 0) (secret-widths k h) refl
+returns c =
+    let c10 = c .before .before .before .before .before .before .before .before .before .before in
+    let k = c10 .args .k in
+    let h : Locked k = record { keys = search needs; versions = search needs } in
+    (c .before .put2 .ensures ∙ ap (λ s. laid (k .versions) 80 s) (c .before .before .before .before .before .put .ensures))
+    ∙ laid-all _ (secretPieces k) (replicate 85 0) (secret-widths k h) refl
 
 pub secret-bytes-spec : {M : Type 1} → statement M
 secret-bytes-spec =

@@ -6,11 +6,11 @@ use Rattle.image.specs.Image.{join}
 use Rattle.image.proofs.writing.tap_bytes.Statement.{statement}
 use Rattle.image.proofs.writing.tap_bytes.Tie as tie
 
-bit-requires : tie.Need-bit-requires
-bit-requires c κs = search needs
+flag-byte-requires : tie.Need-flag-byte-requires
+flag-byte-requires c κs = search needs
 
-bit-requires-2 : tie.Need-bit-requires-2
-bit-requires-2 c κs = search needs
+flag-byte-requires-2 : tie.Need-flag-byte-requires-2
+flag-byte-requires-2 c κs = search needs
 
 cast-t9 : tie.Need-cast-t9
 cast-t9 c = search needs
@@ -26,8 +26,8 @@ cast-t15 c = search needs
 
 returns : tie.Need-returns
 unfolding join low
-returns c = λ i. c .before .bit .ensures i ∷ c .bit2 .ensures i ∷ low 4 (c .before .before .args .t .counter)
+returns c = λ i. c .before .flag-byte .ensures i ∷ c .flag-byte2 .ensures i ∷ low 4 (c .before .before .args .t .counter)
 
 pub tap-bytes-spec : {M : Type 1} → statement M
 tap-bytes-spec =
-    tie.close (tie.spec bit-requires bit-requires-2 cast-t9 cast-t11 cast-t13 cast-t15 returns)
+    tie.close (tie.spec flag-byte-requires flag-byte-requires-2 cast-t9 cast-t11 cast-t13 cast-t15 returns)
