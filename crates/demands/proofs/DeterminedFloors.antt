@@ -1,10 +1,8 @@
--- Each public function of the floors from base to state: its promise, as the source states it, determines the result and the lent room.
+-- Each public function of the floors from base to mirror: its promise, as the source states it, determines the result and the lent room.
 use mathlib.Core.Bool.{Bool}
 use mathlib.Core.List.{List}
 use mathlib.Core.Path.{_≡_}
 use Prim.Native.Nat.{ℕ, _%_}
-use lib.Dec.{leb}
-use Rattle.base.specs.Decide.{pick}
 use Rattle.base.specs.Bytes.{byteAt, same, laid}
 use Rattle.sbox.specs.Tables.{sbox, invSbox}
 use Rattle.sbox.specs.Words.{mixingTable, unmixingTable}
@@ -48,18 +46,6 @@ use Rattle.lines.specs.Hex.{digitOf, charOf, isHex, decoded, decodedRoom, chars
 use Rattle.mirror.specs.declared.Laid.{Laid}
 use Rattle.mirror.specs.declared.Mirror.{Mirror}
 use Rattle.mirror.specs.Mirrors.{laidOf}
-use Rattle.state.specs.declared.Access.{Access}
-use Rattle.state.specs.declared.Birth.{Birth}
-use Rattle.state.specs.declared.Files.{Files}
-use Rattle.state.specs.declared.Grant.{Grant}
-use Rattle.state.specs.declared.Live.{Live}
-use Rattle.state.specs.declared.Pending.{Pending}
-use Rattle.state.specs.declared.Tag.{Tag}
-use Rattle.state.specs.declared.Tapping.{Tapping}
-use Rattle.state.specs.State.{startOf, sizeOf, slotOf, headIn, readingIn, keyIn, noLive, noPending, quieted, endedOf}
-use Rattle.state.specs.Access.{readGrant, writeGrant, accessFor}
-use Rattle.state.specs.Fresh.{born}
-use Rattle.state.specs.Sound.{soundTag}
 use Rattle.demands.specs.Determining.{Determined, DeterminedIn}
 use Rattle.demands.proofs.Determined.{once, twice, chains-once, pads-once, opens-once, closes-once, hides-once}
 
@@ -121,9 +107,8 @@ pub normalise-determined : (file : ℕ) (s room : List ℕ)
     → DeterminedIn (λ (r : Normalised) (new : List ℕ). (r ≡ normalised (judged file s) s room) × (new ≡ normalRoom (judged file s) s room))
 normalise-determined file s room = twice
 
--- `settings::head_of`
-pub front-determined : (s : List ℕ) → Determined (λ (r : Head). r ≡ headOf s)
-front-determined s = once
+pub head-of-determined : (s : List ℕ) → Determined (λ (r : Head). r ≡ headOf s)
+head-of-determined s = once
 
 pub meaning-determined : (s : List ℕ) → Determined (λ (r : Reading). r ≡ readingOf (readOf s))
 meaning-determined s = once
@@ -216,52 +201,3 @@ encode-determined s room = once
 -- ---- mirror
 pub lay-determined : (file : List ℕ) (r : Reading) (m : Mirror) → Determined (λ (l : Laid). l ≡ laidOf file r m)
 lay-determined file r m = once
-
--- ---- state
-pub fresh-determined : (uid : List ℕ) → Determined (λ (r : Birth). r ≡ born uid)
-fresh-determined uid = once
-
-pub access-for-determined : (ins : ℕ) (l : Live) (h : Head) → Determined (λ (r : Access). r ≡ accessFor ins l h)
-access-for-determined ins l h = once
-
-pub read-grant-determined : (l : Live) (h : Head) → Determined (λ (r : Grant). r ≡ readGrant l h)
-read-grant-determined l h = once
-
-pub write-grant-determined : (l : Live) (h : Head) → Determined (λ (r : Grant). r ≡ writeGrant l h)
-write-grant-determined l h = once
-
-pub sound-determined : (t : Tag) → Determined (λ (r : Bool). r ≡ soundTag t)
-sound-determined t = once
-
-pub ended-determined : (tag : Tag) → Determined (λ (r : Tag). r ≡ endedOf tag)
-ended-determined tag = once
-
-pub file-size-determined : (n : ℕ) → Determined (λ (r : ℕ). r ≡ sizeOf n)
-file-size-determined n = once
-
-pub file-start-determined : (n : ℕ) → Determined (λ (r : ℕ). r ≡ startOf n)
-file-start-determined n = once
-
-pub key-of-determined : (keys : List ℕ) (k : ℕ) → Determined (λ (r : List ℕ). r ≡ keyIn keys k)
-key-of-determined keys k = once
-
-pub no-live-determined : Determined (λ (r : Live). r ≡ noLive)
-no-live-determined = once
-
-pub no-pending-determined : Determined (λ (r : Pending). r ≡ noPending)
-no-pending-determined = once
-
-pub quiet-determined : (t : Tapping) → Determined (λ (r : Tapping). r ≡ quieted t)
-quiet-determined t = once
-
-pub head-of-determined : (rules lens : List ℕ) (n : ℕ) → Determined (λ (r : Head). r ≡ headIn rules lens n)
-head-of-determined rules lens n = once
-
-pub reading-of-determined : (f : Files) (n : ℕ) → Determined (λ (r : Reading). r ≡ readingIn f n)
-reading-of-determined f n = once
-
-pub slot-of-determined : (n : ℕ) → Determined (λ (r : ℕ). r ≡ slotOf n)
-slot-of-determined n = once
-
-pub string-len-determined : (lens : List ℕ) (i : ℕ) → Determined (λ (r : ℕ). r ≡ pick (leb (byteAt lens i) 27) (byteAt lens i) 27)
-string-len-determined lens i = once
