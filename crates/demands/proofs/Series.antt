@@ -80,9 +80,9 @@ unfolding accepted refusal endedOf afterwards restrung
 changed-rules t f m mode = way (λ (a : Answer). rulesOf (a .tag .files) ≡ rulesOf f) (overlong mode 0) (λ z. refl) (λ z. refl)
 
 -- what is not accepted changes nothing
-never : (b : Bool) {x y : List ℕ} → y ≡ pick (and b false) x y
-never true = refl
-never false = refl
+never : (b : Bool) (x y : List ℕ) → y ≡ pick (and b false) x y
+never true x y = refl
+never false x y = refl
 
 module _ (t : Tag) (slots : Slots t) (c random : List ℕ) (n : ℕ) (small : slotOf n ≤ 2) where
   put : (a : Answer) → Changed t c a
@@ -123,7 +123,9 @@ module _ (t : Tag) (slots : Slots t) (c random : List ℕ) (n : ℕ) (small : sl
           also : (b : Bool) → pick b (normal (stringIn t c)) (rulesOf (t .files) n) ≡ pick (and b true) (normal (stringIn t c)) (rulesOf (t .files) n)
           also true = refl
           also false = refl
-      by true true false p q r = ap (λ f. rulesOf f n) (changed-accepted t c random r .files) ∙ never (eqb (byteAt (partOf c) 0) n)
+      by true true false p q r =
+          ap (λ f. rulesOf f n) (changed-accepted t c random r .files)
+          ∙ never (eqb (byteAt (partOf c) 0) n) (normal (stringIn t c)) (rulesOf (t .files) n)
 
 -- ---- a call, and a series
 step-rules : (t : Tag) → Slots t → (a : Asked) (n : ℕ) → slotOf n ≤ 2
@@ -136,9 +138,9 @@ step-rules t s a n h = by (outcomeOf t (a .random) (a .room))
         ≡ pick (and (isChange (a .command) n) (and (replies o) (accepting (answered t (a .command) (a .random) .status))))
         (normal (stringIn t (a .command))) (rulesOf (t .files) n)
     by Replied = answered-rules t s (a .command) (a .random) n h
-    by SmallRoom = never (isChange (a .command) n)
-    by WrongRandom = never (isChange (a .command) n)
-    by Unsound = never (isChange (a .command) n)
+    by SmallRoom = never (isChange (a .command) n) (normal (stringIn t (a .command))) (rulesOf (t .files) n)
+    by WrongRandom = never (isChange (a .command) n) (normal (stringIn t (a .command))) (rulesOf (t .files) n)
+    by Unsound = never (isChange (a .command) n) (normal (stringIn t (a .command))) (rulesOf (t .files) n)
 
 -- after any series the string of each file is the normal form of the last change accepted for it, or as it was
 pub series-rules : (t : Tag) → Fine t → (asked : List Asked) (n : ℕ) → slotOf n ≤ 2
