@@ -24,7 +24,8 @@ use Rattle.state.specs.State.{readingIn}
 use Rattle.state.specs.Access.{accessFor, accessStatus, grantStatus}
 use Rattle.answer.specs.Answer.{Answer, refusal, accepted}
 use Rattle.details.specs.Details.{changedSettings, byVerdict}
-use Rattle.tag.specs.Wrapped.{oneOf, formRight, commandData, wrappedCommands, orderStatus, headerLength, fileStatus, byteStatus, frontStatus, own, openingOf, onOpening, fromStep7, onAccess, fromStep5, commanded, wrapped}
+use Rattle.tag.specs.Wrapped.{oneOf, formRight, commandData, wrappedCommands, orderStatus, headerLength, fileStatus, byteStatus, frontStatus}
+use Rattle.tag.specs.Wrapped.{own, openingOf, onOpening, fromStep7, onAccess, fromStep5, commanded, wrapped}
 use Rattle.tag.specs.Call.{answered}
 use Rattle.series.specs.Series.{accepting}
 use Rattle.series.proofs.Choices.{not-both, way}
@@ -173,13 +174,14 @@ module _ (t : Tag) (c random : List ℕ) (class : byteAt c 0 ≡ 0x90) (command 
       let known = oneOf (byteAt c 1) wrappedCommands in
       let zero = and (eqb (byteAt c 2) 0) (eqb (byteAt c 3) 0) in
       let af = eqb (byteAt c 1) 0xAF in
-      let s : ℕ = pick known (pick zero (pick (t .pending .on) (pick af 0 0x91CA) (pick af 0x911C 0)) 0x919E) 0x911C in
+      let order : Bool → ℕ = λ b. pick known (pick zero (pick (t .pending .on) (pick b 0 0x91CA) (pick b 0x911C 0)) 0x919E) 0x911C in
+      let s : ℕ = order af in
       way P (formRight c)
       (λ f.
       way P (eqb s 0)
       (λ e.
       subst (λ i. P (commanded t i (commandData c) random)) (sym command)
-      (talk-only (order-idle known zero (t .pending .on) (subst (λ (b : Bool). eqb (pick known (pick zero (pick (t .pending .on) (pick b 0 0x91CA) (pick b 0x911C 0)) 0x919E) 0x911C) 0 ≡ true) (ap (λ i. eqb i 0xAF) command) e))))
+      (talk-only (order-idle known zero (t .pending .on) (subst (λ (b : Bool). eqb (order b) 0 ≡ true) (ap (λ i. eqb i 0xAF) command) e))))
       (λ e. refused s (order-refuses known zero (t .pending .on) af)))
       (λ f. refused 0x917E form-refuses)
     where

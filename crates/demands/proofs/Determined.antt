@@ -26,14 +26,18 @@ use Rattle.answer.specs.declared.Done.{Done}
 use Rattle.answer.specs.Answer.{Answer, answerOf, Gives}
 use Rattle.tag.specs.declared.Called.{Called}
 use Rattle.tag.specs.Call.{Calls, Laid, Replies}
-use Rattle.demands.specs.Determining.{Determined, DeterminedIn, SameText, DeterminedText}
+use Rattle.demands.specs.Determining.{Determined, DeterminedIn, DeterminedRooms, SameText, DeterminedText}
 
--- ---- the general lemma: once for a result, once for a result and a room
+-- ---- the general lemma: for a result, for a result and a room, for a result and two rooms
 pub once : {A : Type 0} {x : A} → Determined (λ (r : A). r ≡ x)
 once r q p h = p ∙ sym h
 
 pub twice : {A : Type 0} {x : A} {y : List ℕ} → DeterminedIn (λ (r : A) (new : List ℕ). (r ≡ x) × (new ≡ y))
 twice r q new other p h = (once r q (p .0) (h .0), once new other (p .1) (h .1))
+
+pub thrice : {A : Type 0} {x : A} {y z : List ℕ}
+    → DeterminedRooms (λ (r : A) (first second : List ℕ). (r ≡ x) × ((first ≡ y) × (second ≡ z)))
+thrice r q first₁ first₂ second₁ second₂ p h = (once r q (p .0) (h .0), twice first₁ first₂ second₁ second₂ (p .1) (h .1))
 
 -- ---- the records
 pub chains-once : {f : List ℕ → List ℕ} {old : List ℕ} → DeterminedIn (λ (r : Chained) (new : List ℕ). Chains f old r new)

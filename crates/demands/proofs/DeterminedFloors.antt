@@ -1,4 +1,4 @@
--- Each public function of the floors from base to state: its promise, as the source states it, determines the result and the lent room.
+-- Each public function of the floors from base to mirror: its promise, as the source states it, determines the result and the lent room.
 use mathlib.Core.Bool.{Bool}
 use mathlib.Core.List.{List}
 use mathlib.Core.Path.{_≡_}
@@ -50,20 +50,8 @@ use Rattle.lines.specs.Hex.{digitOf, charOf, isHex, decoded, decodedRoom, chars
 use Rattle.mirror.specs.declared.Laid.{Laid}
 use Rattle.mirror.specs.declared.Mirror.{Mirror}
 use Rattle.mirror.specs.Mirrors.{laidOf}
-use Rattle.state.specs.declared.Access.{Access}
-use Rattle.state.specs.declared.Birth.{Birth}
-use Rattle.state.specs.declared.Files.{Files}
-use Rattle.state.specs.declared.Grant.{Grant}
-use Rattle.state.specs.declared.Live.{Live}
-use Rattle.state.specs.declared.Pending.{Pending}
-use Rattle.state.specs.declared.Tag.{Tag}
-use Rattle.state.specs.declared.Tapping.{Tapping}
-use Rattle.state.specs.State.{startOf, sizeOf, slotOf, stringAt, headIn, readingIn, keyIn, noLive, noPending, quieted, endedOf}
-use Rattle.state.specs.Access.{readGrant, writeGrant, accessFor}
-use Rattle.state.specs.Fresh.{Births}
-use Rattle.state.specs.Sound.{soundTag}
 use Rattle.demands.specs.Determining.{Determined, DeterminedIn}
-use Rattle.demands.proofs.Determined.{once, twice, chains-once, pads-once, opens-once, closes-once, hides-once, births-once}
+use Rattle.demands.proofs.Determined.{once, twice, chains-once, pads-once, opens-once, closes-once, hides-once}
 
 -- ---- base
 pub at-determined : (s : List ℕ) (i : ℕ) → Determined (λ (r : ℕ). r ≡ byteAt s i)
@@ -136,9 +124,8 @@ status-word-determined s = once
 pub judge-determined : (file : ℕ) (s : List ℕ) → Determined (λ (r : Verdict). r ≡ judged file s)
 judge-determined file s = once
 
--- `settings::head_of`
-pub front-determined : (s : List ℕ) → Determined (λ (r : Head). r ≡ headOf s)
-front-determined s = once
+pub head-of-determined : (s : List ℕ) → Determined (λ (r : Head). r ≡ headOf s)
+head-of-determined s = once
 
 pub meaning-determined : (s : List ℕ) → Determined (λ (r : Reading). r ≡ readingOf (readOf s))
 meaning-determined s = once
@@ -164,7 +151,28 @@ pub write-determined : (file : ℕ) (r : Settings) (room : List ℕ)
     → DeterminedIn (λ (w : Written) (new : List ℕ). (w ≡ writtenAs (meets file r) r room) × (new ≡ writtenRoom (meets file r) r room))
 write-determined file r room = twice
 
--- ---- crc, sdm, authentication, session_keys, padding, messaging
+-- ---- crc
+pub crc-of-determined : (s : List ℕ) → Determined (λ (r : List ℕ). r ≡ crc s)
+crc-of-determined s = once
+
+-- ---- sdm
+pub picc-data-determined : (key : List ℕ) (t : Tap) (random : List ℕ) → Determined (λ (r : List ℕ). r ≡ piccData key t random)
+picc-data-determined key t random = once
+
+pub tap-iv-determined : (key : List ℕ) (counter : ℕ) → Determined (λ (r : List ℕ). r ≡ tapIv key counter)
+tap-iv-determined key counter = once
+
+pub tap-keys-determined : (key : List ℕ) (t : Tap) → Determined (λ (r : TapKeys). r ≡ tapKeys key t)
+tap-keys-determined key t = once
+
+pub tap-mac-determined : (key text : List ℕ) → Determined (λ (r : List ℕ). r ≡ mac key text)
+tap-mac-determined key text = once
+
+pub tap-encrypt-determined : (key : List ℕ) (counter : ℕ) (text : List ℕ)
+    → DeterminedIn (λ (r : Bool) (new : List ℕ). Hides key counter text r new)
+tap-encrypt-determined key counter text = hides-once
+
+-- ---- authentication
 pub check-part-two-determined : (kx b x : List ℕ) → Determined (λ (r : PartTwo). r ≡ partTwo kx b x)
 check-part-two-determined kx b x = once
 
@@ -177,21 +185,25 @@ next-reply-determined kx a = once
 pub part-one-determined : (kx b : List ℕ) → Determined (λ (r : List ℕ). r ≡ enciphered kx b)
 part-one-determined kx b = once
 
-pub open-determined : (s : Session) (m : Mode) (cmd : ℕ) (x : List ℕ) (h : ℕ) (there : Bool) (room : List ℕ)
-    → DeterminedIn (λ (r : Opened) (new : List ℕ). Opens x (opening s m cmd x h there) room r new)
-open-determined s m cmd x h there room = opens-once
-
-pub crc-of-determined : (s : List ℕ) → Determined (λ (r : List ℕ). r ≡ crc s)
-crc-of-determined s = once
-
+-- ---- session_keys
 pub session-keys-determined : (kx a b : List ℕ) → Determined (λ (r : Keys). r ≡ sessionKeys kx a b)
 session-keys-determined kx a b = once
 
+-- ---- padding
 pub pad-determined : (room : List ℕ) (n : ℕ) → DeterminedIn (λ (r : Padded) (new : List ℕ). Pads n room r new)
 pad-determined room n = pads-once
 
 pub unpad-determined : (s : List ℕ) → Determined (λ (r : Unpadded). r ≡ unpad s)
 unpad-determined s = once
+
+-- ---- messaging
+pub open-determined : (s : Session) (m : Mode) (cmd : ℕ) (x : List ℕ) (h : ℕ) (there : Bool) (room : List ℕ)
+    → DeterminedIn (λ (r : Opened) (new : List ℕ). Opens x (opening s m cmd x h there) room r new)
+open-determined s m cmd x h there room = opens-once
+
+pub close-determined : (s : Session) (m : Mode) (code : ℕ) (room : List ℕ) (n : ℕ)
+    → DeterminedIn (λ (r : Closed) (new : List ℕ). Closes s m code n room r new)
+close-determined s m code room n = closes-once
 
 pub command-iv-determined : (s : Session) → Determined (λ (r : List ℕ). r ≡ commandIv s)
 command-iv-determined s = once
@@ -199,28 +211,8 @@ command-iv-determined s = once
 pub reply-iv-determined : (s : Session) → Determined (λ (r : List ℕ). r ≡ replyIv s)
 reply-iv-determined s = once
 
-pub close-determined : (s : Session) (m : Mode) (code : ℕ) (room : List ℕ) (n : ℕ)
-    → DeterminedIn (λ (r : Closed) (new : List ℕ). Closes s m code n room r new)
-close-determined s m code room n = closes-once
-
 pub too-long-determined : (m : Mode) (n : ℕ) → Determined (λ (r : Bool). r ≡ overlong m n)
 too-long-determined m n = once
-
-pub picc-data-determined : (key : List ℕ) (t : Tap) (random : List ℕ) → Determined (λ (r : List ℕ). r ≡ piccData key t random)
-picc-data-determined key t random = once
-
-pub tap-encrypt-determined : (key : List ℕ) (counter : ℕ) (text : List ℕ)
-    → DeterminedIn (λ (r : Bool) (new : List ℕ). Hides key counter text r new)
-tap-encrypt-determined key counter text = hides-once
-
-pub tap-iv-determined : (key : List ℕ) (counter : ℕ) → Determined (λ (r : List ℕ). r ≡ tapIv key counter)
-tap-iv-determined key counter = once
-
-pub tap-keys-determined : (key : List ℕ) (t : Tap) → Determined (λ (r : TapKeys). r ≡ tapKeys key t)
-tap-keys-determined key t = once
-
-pub tap-mac-determined : (key text : List ℕ) → Determined (λ (r : List ℕ). r ≡ mac key text)
-tap-mac-determined key text = once
 
 -- ---- lines
 pub find-determined : (text : List ℕ) (at b : ℕ) → Determined (λ (r : ℕ). r ≡ seek text at b)
@@ -245,52 +237,3 @@ encode-determined s room = once
 -- ---- mirror
 pub lay-determined : (file : List ℕ) (r : Reading) (m : Mirror) → Determined (λ (l : Laid). l ≡ laidOf file r m)
 lay-determined file r m = once
-
--- ---- state
-pub fresh-determined : (uid : List ℕ) → Determined (λ (r : Birth). Births uid r)
-fresh-determined uid = births-once
-
-pub access-for-determined : (ins : ℕ) (l : Live) (h : Head) → Determined (λ (r : Access). r ≡ accessFor ins l h)
-access-for-determined ins l h = once
-
-pub read-grant-determined : (l : Live) (h : Head) → Determined (λ (r : Grant). r ≡ readGrant l h)
-read-grant-determined l h = once
-
-pub write-grant-determined : (l : Live) (h : Head) → Determined (λ (r : Grant). r ≡ writeGrant l h)
-write-grant-determined l h = once
-
-pub sound-determined : (t : Tag) → Determined (λ (r : Bool). r ≡ soundTag t)
-sound-determined t = once
-
-pub ended-determined : (tag : Tag) → Determined (λ (r : Tag). r ≡ endedOf tag)
-ended-determined tag = once
-
-pub file-size-determined : (n : ℕ) → Determined (λ (r : ℕ). r ≡ sizeOf n)
-file-size-determined n = once
-
-pub file-start-determined : (n : ℕ) → Determined (λ (r : ℕ). r ≡ startOf n)
-file-start-determined n = once
-
-pub key-of-determined : (keys : List ℕ) (k : ℕ) → Determined (λ (r : List ℕ). r ≡ keyIn keys k)
-key-of-determined keys k = once
-
-pub no-live-determined : Determined (λ (r : Live). r ≡ noLive)
-no-live-determined = once
-
-pub no-pending-determined : Determined (λ (r : Pending). r ≡ noPending)
-no-pending-determined = once
-
-pub quiet-determined : (t : Tapping) → Determined (λ (r : Tapping). r ≡ quieted t)
-quiet-determined t = once
-
-pub head-of-determined : (rules lens : List ℕ) (n : ℕ) → Determined (λ (r : Head). r ≡ headIn rules lens n)
-head-of-determined rules lens n = once
-
-pub reading-of-determined : (f : Files) (n : ℕ) → Determined (λ (r : Reading). r ≡ readingIn f n)
-reading-of-determined f n = once
-
-pub slot-of-determined : (n : ℕ) → Determined (λ (r : ℕ). r ≡ slotOf n)
-slot-of-determined n = once
-
-pub string-in-determined : (rules lens : List ℕ) (n : ℕ) → Determined (λ (r : List ℕ). r ≡ stringAt rules lens n)
-string-in-determined rules lens n = once

@@ -14,8 +14,8 @@ use Rattle.image.specs.Answers.{readIn, storedIn, imageIn}
 use Rattle.stand.specs.Answers.{Makes, Plays, verdictWord, normalNumber}
 use Rattle.plans.specs.declared.Meaning.{Meaning}
 use Rattle.plans.specs.Plan.{said, goodBytes, bytesRoom, meaningOf, commandRoom, randomRoom}
-use Rattle.demands.specs.Determining.{Determined, DeterminedIn}
-use Rattle.demands.proofs.Determined.{once, twice}
+use Rattle.demands.specs.Determining.{Determined, DeterminedIn, DeterminedRooms}
+use Rattle.demands.proofs.Determined.{once, twice, thrice}
 
 -- ---- image
 pub from-image-determined : (s : List ℕ) → Determined (λ (r : Read). r ≡ readIn s)
@@ -25,32 +25,32 @@ pub to-image-determined : (tag : Tag) (s : List ℕ) → DeterminedIn (λ (r : S
 to-image-determined tag s = twice
 
 -- ---- stand
-pub image-length-determined : Determined (λ (r : ℕ). r ≡ imageLength)
-image-length-determined = once
+pub mainspur-image-length-determined : Determined (λ (r : ℕ). r ≡ imageLength)
+mainspur-image-length-determined = once
 
-pub fresh-determined : (uid image : List ℕ) → DeterminedIn (λ (r : ℕ) (new : List ℕ). Makes uid image r new)
-fresh-determined uid image r q new other p h = twice r q new other (p .number, p .left) (h .number, h .left)
+pub mainspur-fresh-determined : (uid state : List ℕ) → DeterminedIn (λ (r : ℕ) (new : List ℕ). Makes uid state r new)
+mainspur-fresh-determined uid state r q new other p h = twice r q new other (p .number, p .left) (h .number, h .left)
 
-pub call-determined : (image c random room : List ℕ) (r q : ℕ) (image₁ image₂ room₁ room₂ : List ℕ)
-    → Plays image c random room r image₁ room₁ → Plays image c random room q image₂ room₂
-    → (r ≡ q) × ((image₁ ≡ image₂) × (room₁ ≡ room₂))
-call-determined image c random room r q image₁ image₂ room₁ room₂ p h =
-    (once r q (p .number) (h .number), twice image₁ image₂ room₁ room₂ (p .kept, p .left) (h .kept, h .left))
+pub mainspur-call-determined : (state command random room : List ℕ)
+    → DeterminedRooms (λ (r : ℕ) (new-state new-room : List ℕ). Plays state command random room r new-state new-room)
+mainspur-call-determined state command random room r q state₁ state₂ room₁ room₂ p h =
+    thrice r q state₁ state₂ room₁ room₂ (p .number, (p .kept, p .left)) (h .number, (h .kept, h .left))
 
-pub settings-check-determined : (file : ℕ) (text : List ℕ) → Determined (λ (r : ℕ). r ≡ verdictWord (judged file text))
-settings-check-determined file text = once
+pub mainspur-settings-check-determined : (file : ℕ) (text : List ℕ) → Determined (λ (r : ℕ). r ≡ verdictWord (judged file text))
+mainspur-settings-check-determined file text = once
 
-pub settings-normalise-determined : (file : ℕ) (text room : List ℕ)
-    → DeterminedIn (λ (r : ℕ) (new : List ℕ). (r ≡ normalNumber (normalised (judged file text) text room)) × (new ≡ normalRoom (judged file text) text room))
-settings-normalise-determined file text room = twice
+pub mainspur-settings-normalise-determined : (file : ℕ) (text room : List ℕ)
+    → DeterminedIn
+    (λ (r : ℕ) (new : List ℕ). (r ≡ normalNumber (normalised (judged file text) text room)) × (new ≡ normalRoom (judged file text) text room))
+mainspur-settings-normalise-determined file text room = twice
 
 -- ---- plans
-pub line-meaning-determined : (line command random : List ℕ) (r q : Meaning) (command₁ command₂ random₁ random₂ : List ℕ)
-    → (r ≡ meaningOf (said line) command random) × ((command₁ ≡ commandRoom (said line) command) × (random₁ ≡ randomRoom (said line) random))
-    → (q ≡ meaningOf (said line) command random) × ((command₂ ≡ commandRoom (said line) command) × (random₂ ≡ randomRoom (said line) random))
-    → (r ≡ q) × ((command₁ ≡ command₂) × (random₁ ≡ random₂))
-line-meaning-determined line command random r q command₁ command₂ random₁ random₂ p h =
-    (once r q (p .0) (h .0), twice command₁ command₂ random₁ random₂ (p .1) (h .1))
+pub line-meaning-determined : (line command random : List ℕ)
+    → DeterminedRooms
+    (λ (r : Meaning) (new-command new-random : List ℕ).
+    (r ≡ meaningOf (said line) command random)
+    × ((new-command ≡ commandRoom (said line) command) × (new-random ≡ randomRoom (said line) random)))
+line-meaning-determined line command random = thrice
 
 pub line-uid-determined : (line room : List ℕ)
     → DeterminedIn (λ (r : Bool) (new : List ℕ). (r ≡ goodBytes 7 (said line)) × (new ≡ bytesRoom (said line) room))

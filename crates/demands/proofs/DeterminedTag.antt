@@ -1,16 +1,29 @@
--- Each public function of the floors from answer to tag: its promise, as the source states it, determines the result and the lent
+-- Each public function of the floors from state to tag: its promise, as the source states it, determines the result and the lent
 -- room. An answer (Done) is determined up to the bytes behind its length. The other public function of crate tag is `fresh` of state.
 use mathlib.Core.Bool.{Bool}
 use mathlib.Core.List.{List}
 use mathlib.Core.Path.{_≡_}
 use Prim.Native.Nat.{ℕ, min}
+use lib.Dec.{leb}
 use lib.ListN.{take}
+use Rattle.base.specs.Decide.{pick}
+use Rattle.base.specs.Bytes.{byteAt}
+use Rattle.settings.specs.declared.Head.{Head}
 use Rattle.settings.specs.declared.Reading.{Reading}
 use Rattle.messaging.specs.declared.Mode.{Mode}
 use Rattle.messaging.specs.declared.Session.{Session}
+use Rattle.state.specs.declared.Access.{Access}
+use Rattle.state.specs.declared.Birth.{Birth}
 use Rattle.state.specs.declared.Files.{Files}
+use Rattle.state.specs.declared.Grant.{Grant}
 use Rattle.state.specs.declared.Live.{Live}
+use Rattle.state.specs.declared.Pending.{Pending}
 use Rattle.state.specs.declared.Tag.{Tag}
+use Rattle.state.specs.declared.Tapping.{Tapping}
+use Rattle.state.specs.State.{startOf, sizeOf, slotOf, stringAt, headIn, readingIn, keyIn, noLive, noPending, quieted, endedOf}
+use Rattle.state.specs.Access.{readGrant, writeGrant, accessFor}
+use Rattle.state.specs.Fresh.{Births}
+use Rattle.state.specs.Sound.{soundTag}
 use Rattle.answer.specs.declared.Done.{Done}
 use Rattle.answer.specs.declared.Shown.{Shown}
 use Rattle.answer.specs.Answer.{Gives, given, refusal, accepted, sessionOf, usedUp, afterwards}
@@ -25,7 +38,56 @@ use Rattle.binaries.specs.Binaries.{readBinary, updatedBinary}
 use Rattle.tag.specs.declared.Called.{Called}
 use Rattle.tag.specs.Call.{Calls}
 use Rattle.demands.specs.Determining.{Determined, DeterminedIn, DeterminedText}
-use Rattle.demands.proofs.Determined.{once, gives-once, calls-once}
+use Rattle.demands.proofs.Determined.{once, births-once, gives-once, calls-once}
+
+-- ---- state
+pub fresh-determined : (uid : List ℕ) → Determined (λ (r : Birth). Births uid r)
+fresh-determined uid = births-once
+
+pub access-for-determined : (ins : ℕ) (l : Live) (h : Head) → Determined (λ (r : Access). r ≡ accessFor ins l h)
+access-for-determined ins l h = once
+
+pub read-grant-determined : (l : Live) (h : Head) → Determined (λ (r : Grant). r ≡ readGrant l h)
+read-grant-determined l h = once
+
+pub write-grant-determined : (l : Live) (h : Head) → Determined (λ (r : Grant). r ≡ writeGrant l h)
+write-grant-determined l h = once
+
+pub sound-determined : (t : Tag) → Determined (λ (r : Bool). r ≡ soundTag t)
+sound-determined t = once
+
+pub ended-determined : (tag : Tag) → Determined (λ (r : Tag). r ≡ endedOf tag)
+ended-determined tag = once
+
+pub file-size-determined : (n : ℕ) → Determined (λ (r : ℕ). r ≡ sizeOf n)
+file-size-determined n = once
+
+pub file-start-determined : (n : ℕ) → Determined (λ (r : ℕ). r ≡ startOf n)
+file-start-determined n = once
+
+pub key-of-determined : (keys : List ℕ) (k : ℕ) → Determined (λ (r : List ℕ). r ≡ keyIn keys k)
+key-of-determined keys k = once
+
+pub no-live-determined : Determined (λ (r : Live). r ≡ noLive)
+no-live-determined = once
+
+pub no-pending-determined : Determined (λ (r : Pending). r ≡ noPending)
+no-pending-determined = once
+
+pub quiet-determined : (t : Tapping) → Determined (λ (r : Tapping). r ≡ quieted t)
+quiet-determined t = once
+
+pub head-of-determined : (rules lens : List ℕ) (n : ℕ) → Determined (λ (r : Head). r ≡ headIn rules lens n)
+head-of-determined rules lens n = once
+
+pub reading-of-determined : (f : Files) (n : ℕ) → Determined (λ (r : Reading). r ≡ readingIn f n)
+reading-of-determined f n = once
+
+pub slot-of-determined : (n : ℕ) → Determined (λ (r : ℕ). r ≡ slotOf n)
+slot-of-determined n = once
+
+pub string-in-determined : (rules lens : List ℕ) (n : ℕ) → Determined (λ (r : List ℕ). r ≡ stringAt rules lens n)
+string-in-determined rules lens n = once
 
 -- ---- answer
 pub refuse-determined : (tag : Tag) (status : ℕ) → DeterminedText (λ (r : Done). Gives (refusal tag status) r)

@@ -1,9 +1,11 @@
+pub mod Calling
 pub mod Changing
 pub mod Series
 pub mod Readback
 pub mod Meaning
 pub mod Building
 pub mod Reachable
+pub mod Samples
 pub mod Determined
 pub mod DeterminedFloors
 pub mod DeterminedTag

@@ -14,8 +14,7 @@ use Rattle.base.specs.Bytes.{byteAt, low, same}
 use Rattle.base.proofs.Bytes.{and-left, and-right}
 use Rattle.messaging.specs.declared.Mode.{Mode}
 use Rattle.messaging.specs.declared.Mode.the-variants.{Plain}
-use Rattle.messaging.specs.Protect.{content, signed, sent, macRight}
-use Rattle.messaging.specs.Command.{partRight, lengthRight, checked, opening}
+use Rattle.messaging.specs.Protect.{signed, sent}
 use Rattle.messaging.specs.Reply.{closed, closedLength, overlong}
 use Rattle.settings.specs.declared.Verdict.the-variants.{Good}
 use Rattle.settings.specs.Normal.{normal}
@@ -31,15 +30,16 @@ use Rattle.details.specs.Details.{settingsReply, fileSettings, withRules, restr
 use Rattle.selects.specs.Selects.{moved, byName, selected}
 use Rattle.tag.specs.declared.Outcome.{Outcome}
 use Rattle.tag.specs.declared.Outcome.the-variants.{Replied}
-use Rattle.tag.specs.Wrapped.{oneOf, formRight, commandData, orderStatus, headerLength, hasData, fileStatus, byteStatus, frontStatus, own, fromStep7, fromStep5, commanded, wrapped}
+use Rattle.tag.specs.Wrapped.{oneOf, commandData}
 use Rattle.tag.specs.InterIndustry.{isoForm, lcOf, dataOf, isoCommanded, interIndustry}
 use Rattle.tag.specs.Call.{answered, withStatus, replyOf, outcomeOf, replied, byOutcome}
 use Rattle.series.specs.Series.{Asked, step, accepting, Slots}
 use Rattle.series.specs.Worked.{selectApplication, settingsOf}
 use Rattle.series.proofs.Choices.{way}
+use Rattle.series.proofs.Computing.{a-message, a-wrapped-command}
 use Rattle.series.proofs.Fine.{Fine, fine-sound, sound-fine}
 use Rattle.series.proofs.Soundness.{fine-answered, fine-step}
-use Rattle.demands.specs.Talks.{Said, heard, said, saidAll, Alike, isChange, modeOf, stringIn, stringOfReply, telling, Exactly}
+use Rattle.demands.specs.Talks.{Said, heard, said, saidAll, Alike, isChange, modeOf, stringIn, stringOfReply, telling, Tells, Exactly}
 use Rattle.demands.proofs.Changing.{Changed, accepted-change, string-sent}
 use Rattle.demands.proofs.Series.{answered-rules, which, small}
 use Rattle.demands.proofs.Readback.{string-read}
@@ -77,15 +77,15 @@ answers-settings u n random =
     answered (moved u true .tag) (settingsOf n) random ≡ accepted (moved u true .tag) Plain (settingsReply (rulesOf (u .files) n) (sizeOf n))
 
 tells-1 : (u : Tag) (random : List ℕ) → answers-settings u 1 random
-unfolding answered wrapped formRight commandData settingsOf oneOf orderStatus commanded fromStep5 frontStatus headerLength byteStatus fileStatus moved noLive noPending accessFor fromStep7 hasData opening lengthRight partRight checked macRight content own fileSettings placed endedOf talking
+unfolding a-wrapped-command a-message answered settingsOf moved noLive noPending accessFor fileSettings
 tells-1 u random = refl
 
 tells-2 : (u : Tag) (random : List ℕ) → answers-settings u 2 random
-unfolding answered wrapped formRight commandData settingsOf oneOf orderStatus commanded fromStep5 frontStatus headerLength byteStatus fileStatus moved noLive noPending accessFor fromStep7 hasData opening lengthRight partRight checked macRight content own fileSettings placed endedOf talking
+unfolding a-wrapped-command a-message answered settingsOf moved noLive noPending accessFor fileSettings
 tells-2 u random = refl
 
 tells-3 : (u : Tag) (random : List ℕ) → answers-settings u 3 random
-unfolding answered wrapped formRight commandData settingsOf oneOf orderStatus commanded fromStep5 frontStatus headerLength byteStatus fileStatus moved noLive noPending accessFor fromStep7 hasData opening lengthRight partRight checked macRight content own fileSettings placed endedOf talking
+unfolding a-wrapped-command a-message answered settingsOf moved noLive noPending accessFor fileSettings
 tells-3 u random = refl
 
 tells : (u : Tag) (random : List ℕ) (n : ℕ) → 1 ≤ n → n ≤ 3 → answers-settings u n random
@@ -199,12 +199,27 @@ module _ (t : Tag) (f : Fine t) (n : ℕ) (a : 1 ≤ n) (b : n ≤ 3) (c random 
       second-heard (answered t c random .tag) (fine-answered t f c random) (idle-after t c (answered t c random) is-changed) n a b short
       ∙ ap (λ s. settingsReply s (sizeOf n) ++ 0x91 ∷ 0x00 ∷ []) holds
 
--- For any sound tag, file and two ChangeFileSettings commands that this tag accepts, given the same random bytes: the two resulting
--- tags give the same replies to every later series of commands exactly when the two strings have one normal form.
+-- For any sound tag, file and two ChangeFileSettings commands that this tag accepts, given the same random bytes: where the two
+-- resulting tags answer the series `telling` alike, the two strings have one normal form.
+pub telling-apart : (t : Tag) → Slots t → soundTag t ≡ true → (n : ℕ) → 1 ≤ n → n ≤ 3 → (c d random : List ℕ) → isChange c n ≡ true
+    → isChange d n ≡ true → accepting (answered t c random .status) ≡ true → accepting (answered t d random .status) ≡ true
+    → Tells t n c d random
+unfolding next
+telling-apart t s e n a b c d random p q x y l =
+    let f = sound-fine t s e in
+    let r = sym (told t f n a b c random p x) ∙ ap second l ∙ told t f n a b d random q y in
+    let v = settingsReply (normal (stringIn t c)) (sizeOf n) in
+    let w = same-front v (settingsReply (normal (stringIn t d)) (sizeOf n)) (0x91 ∷ 0x00 ∷ []) r in
+    sym (string-read (normal (stringIn t c)) (sizeOf n) (long t f n a b c random p x))
+    ∙ ap stringOfReply w
+    ∙ string-read (normal (stringIn t d)) (sizeOf n) (long t f n a b d random q y)
+
+-- For the same two changes: the two resulting tags give the same replies to every later series of commands exactly when the two
+-- strings have one normal form.
 pub alike-exactly : (t : Tag) → Slots t → soundTag t ≡ true → (n : ℕ) → 1 ≤ n → n ≤ 3 → (c d random : List ℕ) → isChange c n ≡ true
     → isChange d n ≡ true → accepting (answered t c random .status) ≡ true → accepting (answered t d random .status) ≡ true
     → Exactly t c d random
-unfolding Alike next
+unfolding Alike
 alike-exactly t s e n a b c d random p q x y =
     let f = sound-fine t s e in
     let h = is-changed t f n a b c random p x in
@@ -216,11 +231,5 @@ alike-exactly t s e n a b c d random p q x y =
           (ap (λ (z : Answer). z .tag)
           (one-answer t c d (answered t c random) (answered t d random) h k (file-is t f n a b c random p x ∙ sym (file-is t f n a b d random q y))
           (sym (ap normal (string-is t f n a b c random p x)) ∙ o ∙ ap normal (string-is t f n a b d random q y))));
-      one-form =
-          λ l.
-          let r = sym (told t f n a b c random p x) ∙ ap second (l (telling n)) ∙ told t f n a b d random q y in
-          let w = same-front (settingsReply (normal (stringIn t c)) (sizeOf n)) (settingsReply (normal (stringIn t d)) (sizeOf n)) (0x91 ∷ 0x00 ∷ []) r in
-          sym (string-read (normal (stringIn t c)) (sizeOf n) (long t f n a b c random p x))
-          ∙ ap stringOfReply w
-          ∙ string-read (normal (stringIn t d)) (sizeOf n) (long t f n a b d random q y);
+      one-form = λ l. telling-apart t s e n a b c d random p q x y (l (telling n));
     }

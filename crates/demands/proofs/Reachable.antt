@@ -9,10 +9,10 @@ use mathlib.Core.Logic.{_⊎_, inl, inr, ⊎-elim}
 use Prim.Native.Nat.{ℕ, suc, _+_, _≤_, _<_}
 use native.Mathlib.Omega.{arith}
 use lib.Dec.{eqb, ltb}
-use lib.ListN.{length, replicate}
+use lib.ListN.{length}
 use borrow.Author.Tests.{eqb-true, eq-eqb, ne-eqb, lt-ltb, le-ltb}
 use Rattle.base.specs.Decide.{pick, and, or}
-use Rattle.base.specs.Bytes.{byteAt, AllBytes, same, over}
+use Rattle.base.specs.Bytes.{byteAt, AllBytes, over}
 use Rattle.base.proofs.Bytes.{and-right}
 use Rattle.aes.specs.Block.{IsBlock}
 use Rattle.messaging.specs.declared.Mode.{Mode}
@@ -25,11 +25,9 @@ use Rattle.both_ends.proofs.Messages.{sent-command-opens}
 use Rattle.settings.specs.declared.Head.{Head}
 use Rattle.settings.specs.declared.Settings.{Settings}
 use Rattle.settings.specs.declared.Verdict.the-variants.{Good}
-use Rattle.settings.specs.Answers.{verdictOf, judged}
-use Rattle.settings.specs.Fields.{sdmOn, sdmByte, modeOf, headOf, present, ends, sizeOf, readOf, stringOf}
-use Rattle.settings.specs.Rules.{found, optionBits, sdmFile, condition, rights, restRules, rules, meets}
-use Rattle.settings.specs.Normal.{plainMode, freeBits, normal}
-use Rattle.settings.specs.Spans.{readingOf}
+use Rattle.settings.specs.Answers.{judged}
+use Rattle.settings.specs.Fields.{readOf, stringOf}
+use Rattle.settings.specs.Rules.{meets}
 use Rattle.meanings.proofs.Mirrors.{good-length}
 use Rattle.meanings.proofs.OneMeaning.{one-string, string-bytes}
 use Rattle.state.specs.declared.Access.{Access}
@@ -37,10 +35,10 @@ use Rattle.state.specs.declared.Access.the-variants.{In, Never as NeverIn, Deni
 use Rattle.state.specs.declared.Grant.the-variants.{ByKey, ByTap, Free, Never, Denied}
 use Rattle.state.specs.declared.Live.{Live}
 use Rattle.state.specs.declared.Tag.{Tag}
-use Rattle.state.specs.State.{slotOf, rulesOf, readingIn, noPending, filed, talking, tapped}
+use Rattle.state.specs.State.{rulesOf, readingIn}
 use Rattle.state.specs.Fresh.{rightUid}
-use Rattle.state.specs.Access.{granted, changeGrant, inMode, accessFor}
-use Rattle.state.specs.Sound.{rulesSound, keysSound, aloneSound, levelSound, soundTag}
+use Rattle.state.specs.Access.{granted, changeGrant, inMode as accessIn, accessFor}
+use Rattle.state.specs.Sound.{soundTag}
 use Rattle.answer.specs.Answer.{Answer, given, accepted, afterwards, raised, sessionOf}
 use Rattle.details.specs.Details.{restrung, byVerdict, changedSettings}
 use Rattle.tag.specs.declared.Outcome.the-variants.{Replied}
@@ -48,9 +46,11 @@ use Rattle.tag.specs.Wrapped.{oneOf, headerLength, hasData, frontStatus, own, o
 use Rattle.tag.specs.Call.{answered, withStatus, replyOf, outcomeOf, replied, byOutcome, roomBy}
 use Rattle.series.specs.Series.{step}
 use Rattle.series.proofs.Choices.{not-both, way}
+use Rattle.series.proofs.Computing.{soundness, access}
 use Rattle.series.proofs.Settled.{padOut, restored}
 use Rattle.series.proofs.Soundness.{sound-call}
 use Rattle.series.proofs.Changes.{short-none}
+use Rattle.demands.specs.Samples.{tagOf, sample}
 use Rattle.demands.specs.Reaching.{built, changeOf, carried, changing, asking, changed, Ready, UnderE, UnderKey, Reached}
 use Rattle.demands.proofs.Series.{small}
 use Rattle.demands.proofs.Building.{against, pad-bytes, wrapped-bound, wrapped-first, wrapped-filled, built-talks, front-passes}
@@ -240,29 +240,11 @@ module _ (t : Tag) (n : ℕ) (r : Settings) (m : Mode) (h : Ready t n m) (e : me
         }
 
 -- ---- such tags are: of any UID, in the application, file 2 with Change 0 in session with key 0, or with Change E and no session
--- (rights: ReadWrite and Change of file 2)
-unfoldable pub sample : List ℕ → Bool → ℕ → Tag
-sample uid live rights =
-    record {
-      uid = uid;
-      files =
-          record {
-            bytes = replicate 416 0;
-            rules = 0 ∷ 0xE0 ∷ 0xEE ∷ replicate 24 0 ++ 0 ∷ rights ∷ 0xEE ∷ replicate 24 0 ++ 0 ∷ 0xE0 ∷ 0xEE ∷ replicate 24 0;
-            lens = 3 ∷ 3 ∷ 3 ∷ [];
-          };
-      secrets = record { keys = replicate 80 0; versions = replicate 5 0 };
-      live = record { on = live; key = 0; enc = replicate 16 0; mac = replicate 16 0; ti = replicate 4 0; counter = 0 };
-      pending = noPending;
-      place = record { application = true; file = 0 };
-      tap = record { on = false; iso = false; counter = 0 };
-    }
-
 module _ (uid : List ℕ) (u : rightUid uid ≡ true) where
   sample-ready : (live : Bool) (rights : ℕ) (m : Mode) → soundTag (sample uid live rights) ≡ true
       → accessFor 0x5F (sample uid live rights .live) (readingIn (sample uid live rights .files) 2 .settings .head) ≡ In m
       → Ready (sample uid live rights) 2 m
-  unfolding sample noPending AllBytes
+  unfolding sample tagOf AllBytes
   sample-ready live rights m s a =
       record {
         slots = record { rules = refl; lens = refl };
@@ -277,7 +259,7 @@ module _ (uid : List ℕ) (u : rightUid uid ≡ true) where
       }
 
   pub ready-samples : Ready (sample uid true 0xE0) 2 Full × Ready (sample uid false 0xEE) 2 Plain
-  unfolding sample rightUid soundTag rulesSound keysSound aloneSound levelSound slotOf rulesOf readingIn noPending judged verdictOf rules restRules found optionBits sdmFile condition rights sdmOn sdmByte modeOf headOf present ends sizeOf readOf readingOf plainMode freeBits normal same accessFor changeGrant granted
+  unfolding sample tagOf rightUid soundness access
   ready-samples =
       let four = and-right (eqb (length uid) 7) (eqb (byteAt uid 0) 4) u in
       (sample-ready true 0xE0 Full (rw four refl) refl, sample-ready false 0xEE Plain (rw four refl) refl)

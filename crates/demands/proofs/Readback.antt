@@ -17,18 +17,19 @@ use Rattle.messaging.specs.Command.{openedStatus}
 use Rattle.messaging.specs.Reply.{overlong, closedStatus}
 use Rattle.settings.specs.Normal.{normal}
 use Rattle.state.specs.declared.Tag.{Tag}
-use Rattle.state.specs.State.{slotOf, sizeOf, rulesOf}
+use Rattle.state.specs.State.{sizeOf, rulesOf}
 use Rattle.state.specs.Access.{accessFor}
+use Rattle.state.specs.Sound.{soundTag}
 use Rattle.answer.specs.Answer.{Answer, refusal, accepted}
 use Rattle.details.specs.Details.{settingsReply, fileSettings}
-use Rattle.tag.specs.Wrapped.{oneOf, formRight, commandData, wrappedCommands, orderStatus, headerLength, fileStatus, byteStatus, frontStatus, own, openingOf, onOpening, fromStep7, fromStep5, commanded, wrapped}
+use Rattle.tag.specs.Wrapped.{oneOf, formRight, commandData, wrappedCommands, orderStatus, headerLength, fileStatus, byteStatus, frontStatus}
+use Rattle.tag.specs.Wrapped.{own, openingOf, onOpening, fromStep7, fromStep5, commanded, wrapped}
 use Rattle.tag.specs.Call.{answered}
-use Rattle.series.specs.Series.{Asked, step, after, accepting}
+use Rattle.series.specs.Series.{Asked, step, after, accepting, Slots}
 use Rattle.series.proofs.Choices.{not-both, way, not-true}
-use Rattle.series.proofs.Fine.{Fine}
 use Rattle.demands.specs.Talks.{stringIn, changes, lastChange, untouched, asksSettings, readText, stringOfReply}
 use Rattle.demands.proofs.Changing.{order-refuses, front-says, form-refuses, long-refuses, full-refuses, length-refuses, mac-refuses, padding-refuses}
-use Rattle.demands.proofs.Series.{series-rules}
+use Rattle.demands.proofs.Series.{series-leaves}
 
 module _ (t : Tag) (c random : List ℕ) (class : byteAt c 0 ≡ 0x90) (command : byteAt c 1 ≡ 0xF5) where
   abbrev P : Answer → Type 0
@@ -85,10 +86,10 @@ module _ (t : Tag) (c random : List ℕ) (class : byteAt c 0 ≡ 0x90) (command 
       (λ e. way P (eqb (byteAt c 0) 0x90) (λ z. wrapped-read) (λ z. absurd (not-both (sym z ∙ eq-eqb (byteAt c 0) 0x90 class))))
 
 -- whatever tag answers GetFileSettings of file n gives 00, FileOption, rights, size and the rest of the string that it holds
-pub read-alike : (t : Tag) (c random : List ℕ) (n : ℕ) → asksSettings c n ≡ true → accepting (answered t c random .status) ≡ true
+pub read-alike : (t : Tag) (n : ℕ) (c random : List ℕ) → asksSettings c n ≡ true → accepting (answered t c random .status) ≡ true
     → answered t c random .text ≡ readText t n (rulesOf (t .files) n)
 unfolding asksSettings
-read-alike t c random n e h =
+read-alike t n c random e h =
     let f = and-right (eqb (byteAt c 0) 0x90) _ e in
     let k : byteAt (commandData c) 0 ≡ n = eqb-true (byteAt (commandData c) 0) n (and-right (eqb (byteAt c 1) 0xF5) _ f) in
     read-answer t c random (eqb-true (byteAt c 0) 0x90 (and-left _ _ e)) (eqb-true (byteAt c 1) 0xF5 (and-left _ _ f)) h
@@ -103,16 +104,16 @@ untouched-last t (a ∷ more) n s e =
     ∙ untouched-last (step t a) more n s (and-right (not (changes t a n)) _ e)
 
 -- After an accepted change, and until the next one, GetFileSettings of that file gives the normal form that was accepted.
-pub read-and-written-alike : (t : Tag) → Fine t → (a : Asked) (more : List Asked) (n : ℕ) → slotOf n ≤ 2 → changes t a n ≡ true
-    → untouched (step t a) more n ≡ true → (c random : List ℕ) → asksSettings c n ≡ true
+pub read-and-written-alike : (t : Tag) → Slots t → soundTag t ≡ true → (n : ℕ) → 1 ≤ n → n ≤ 3 → (a : Asked) (more : List Asked)
+    → changes t a n ≡ true → untouched (step t a) more n ≡ true → (c random : List ℕ) → asksSettings c n ≡ true
     → accepting (answered (after (step t a) more) c random .status) ≡ true
     → answered (after (step t a) more) c random .text ≡ readText (after (step t a) more) n (normal (stringIn t (a .command)))
 unfolding after lastChange
-read-and-written-alike t f a more n h e q c random asks fair =
+read-and-written-alike t s sound n first last a more e q c random asks fair =
     let u = after (step t a) more in
-    read-alike u c random n asks fair
+    read-alike u n c random asks fair
     ∙ ap (readText u n)
-    (series-rules t f (a ∷ more) n h
+    (series-leaves t s sound n first last (a ∷ more)
     ∙ ap (λ b. lastChange (step t a) more n (pick b (normal (stringIn t (a .command))) (rulesOf (t .files) n))) e
     ∙ untouched-last (step t a) more n (normal (stringIn t (a .command))) q)
 

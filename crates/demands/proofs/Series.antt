@@ -18,6 +18,7 @@ use Rattle.state.specs.declared.Files.{Files}
 use Rattle.state.specs.declared.Tag.{Tag}
 use Rattle.state.specs.State.{slotOf, rulesOf, readingIn, endedOf, filed, keyed, placed, talking, tapped}
 use Rattle.state.specs.Fresh.{deliveredFiles, freshTag, rightUid}
+use Rattle.state.specs.Sound.{soundTag}
 use Rattle.answer.specs.Answer.{Answer, refusal, accepted, afterwards}
 use Rattle.answer.specs.Taps.{shown}
 use Rattle.answer.specs.Filing.{storedIso, tapRead, withBytes}
@@ -28,7 +29,7 @@ use Rattle.tag.specs.declared.Outcome.{Outcome}
 use Rattle.tag.specs.declared.Outcome.the-variants.{Replied, SmallRoom, WrongRandom, Unsound}
 use Rattle.tag.specs.Wrapped.{commandData}
 use Rattle.tag.specs.Call.{answered, outcomeOf, replied, unanswered, byOutcome}
-use Rattle.series.specs.Series.{Asked, step, after, accepting, Slots}
+use Rattle.series.specs.Series.{Asked, step, after, accepting, replies, accepts, Slots}
 use Rattle.series.proofs.Choices.{not-both, way}
 use Rattle.series.proofs.Walk.{Sent, Kinds, every-answer}
 use Rattle.series.proofs.Places.{slot-other, same-slot}
@@ -37,7 +38,7 @@ use Rattle.series.proofs.Settled.{padOut, restored, whole}
 use Rattle.series.proofs.Soundness.{fine-step}
 use Rattle.series.proofs.Born.{fresh-slots, fresh-sound}
 use Rattle.series.proofs.Changes.{changed-accepted}
-use Rattle.demands.specs.Talks.{isChange, stringIn, replies, changes, lastChange, delivered}
+use Rattle.demands.specs.Talks.{isChange, stringIn, changes, lastChange, delivered}
 use Rattle.demands.proofs.Changing.{Changed, accepted-change, string-sent}
 
 -- ---- a command that is no change leaves every string
@@ -76,6 +77,11 @@ keeps-kinds t c random n other =
 changed-rules : (t : Tag) (f : Files) (m : ℕ) (mode : Mode) → rulesOf (accepted (restrung t f m) mode [] .tag .files) ≡ rulesOf f
 unfolding accepted refusal endedOf afterwards restrung talking tapped filed
 changed-rules t f m mode = way (λ (a : Answer). rulesOf (a .tag .files) ≡ rulesOf f) (overlong mode 0) (λ z. refl) (λ z. refl)
+
+-- what is not accepted changes nothing
+never : (b : Bool) (x y : List ℕ) → y ≡ pick (and b false) x y
+never true x y = refl
+never false x y = refl
 
 module _ (t : Tag) (slots : Slots t) (c random : List ℕ) (n : ℕ) (small : slotOf n ≤ 2) where
   put : (a : Answer) → Changed t c a
@@ -116,25 +122,24 @@ module _ (t : Tag) (slots : Slots t) (c random : List ℕ) (n : ℕ) (small : sl
           also : (b : Bool) → pick b (normal (stringIn t c)) (rulesOf (t .files) n) ≡ pick (and b true) (normal (stringIn t c)) (rulesOf (t .files) n)
           also true = refl
           also false = refl
-      by true true false p q r = ap (λ f. rulesOf f n) (changed-accepted t c random r .files) ∙ never (eqb (byteAt (commandData c) 0) n)
-        where
-          never : (b : Bool) → rulesOf (t .files) n ≡ pick (and b false) (normal (stringIn t c)) (rulesOf (t .files) n)
-          never true = refl
-          never false = refl
+      by true true false p q r =
+          ap (λ f. rulesOf f n) (changed-accepted t c random r .files)
+          ∙ never (eqb (byteAt (commandData c) 0) n) (normal (stringIn t c)) (rulesOf (t .files) n)
 
 -- ---- a call, and a series
 step-rules : (t : Tag) → Slots t → (a : Asked) (n : ℕ) → slotOf n ≤ 2
     → rulesOf (step t a .files) n ≡ pick (changes t a n) (normal (stringIn t (a .command))) (rulesOf (t .files) n)
-unfolding step changes replied unanswered
+unfolding step changes accepts replied unanswered
 step-rules t s a n h = by (outcomeOf t (a .random) (a .room))
   where
     by : (o : Outcome)
         → rulesOf (byOutcome t (answered t (a .command) (a .random)) o .tag .files) n
-        ≡ pick (and (replies o) (and (isChange (a .command) n) (accepting (answered t (a .command) (a .random) .status)))) (normal (stringIn t (a .command))) (rulesOf (t .files) n)
+        ≡ pick (and (isChange (a .command) n) (and (replies o) (accepting (answered t (a .command) (a .random) .status))))
+        (normal (stringIn t (a .command))) (rulesOf (t .files) n)
     by Replied = answered-rules t s (a .command) (a .random) n h
-    by SmallRoom = refl
-    by WrongRandom = refl
-    by Unsound = refl
+    by SmallRoom = never (isChange (a .command) n) (normal (stringIn t (a .command))) (rulesOf (t .files) n)
+    by WrongRandom = never (isChange (a .command) n) (normal (stringIn t (a .command))) (rulesOf (t .files) n)
+    by Unsound = never (isChange (a .command) n) (normal (stringIn t (a .command))) (rulesOf (t .files) n)
 
 -- after any series the string of each file is the normal form of the last change accepted for it, or as it was
 pub series-rules : (t : Tag) → Fine t → (asked : List Asked) (n : ℕ) → slotOf n ≤ 2
@@ -184,10 +189,15 @@ delivery uid n a b =
     (λ e. subst (λ k. rulesOf (freshTag uid .files) k ≡ delivered k) (sym e) (delivery-3 uid)))
     (which n a b)
 
--- After any series of commands from a fresh tag, each file holds the normal form of the last change accepted for it, or its delivery
--- settings.
-pub what-a-series-leaves : (uid : List ℕ) → rightUid uid ≡ true → (asked : List Asked) (n : ℕ) → 1 ≤ n → n ≤ 3
+-- After any series of commands each file of a sound tag holds the normal form of the last change accepted for it, or its settings as
+-- they were.
+pub series-leaves : (t : Tag) → Slots t → soundTag t ≡ true → (n : ℕ) → 1 ≤ n → n ≤ 3 → (asked : List Asked)
+    → rulesOf (after t asked .files) n ≡ lastChange t asked n (rulesOf (t .files) n)
+series-leaves t s e n a b asked = series-rules t (sound-fine t s e) asked n (small n a b)
+
+-- From a fresh tag on: the last change accepted for it, or its delivery settings.
+pub what-a-series-leaves : (uid : List ℕ) → rightUid uid ≡ true → (n : ℕ) → 1 ≤ n → n ≤ 3 → (asked : List Asked)
     → rulesOf (after (freshTag uid) asked .files) n ≡ lastChange (freshTag uid) asked n (delivered n)
-what-a-series-leaves uid e asked n a b =
-    series-rules (freshTag uid) (sound-fine (freshTag uid) (fresh-slots uid) (fresh-sound uid e)) asked n (small n a b)
+what-a-series-leaves uid e n a b asked =
+    series-leaves (freshTag uid) (fresh-slots uid) (fresh-sound uid e) n a b asked
     ∙ ap (lastChange (freshTag uid) asked n) (delivery uid n a b)

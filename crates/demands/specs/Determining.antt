@@ -13,6 +13,12 @@ Determined {A} P = (r q : A) → P r → P q → r ≡ q
 abbrev pub DeterminedIn : {A : Type 0} → (A → List ℕ → Type 0) → Type 0
 DeterminedIn {A} P = (r q : A) (new other : List ℕ) → P r new → P q other → (r ≡ q) × (new ≡ other)
 
+-- a promise over a result and what two lent rooms hold then
+abbrev pub DeterminedRooms : {A : Type 0} → (A → List ℕ → List ℕ → Type 0) → Type 0
+DeterminedRooms {A} P =
+    (r q : A) (first₁ first₂ second₁ second₂ : List ℕ) → P r first₁ second₁ → P q first₂ second₂
+    → (r ≡ q) × ((first₁ ≡ first₂) × (second₁ ≡ second₂))
+
 -- what two answers by one promise share: all but the bytes behind the length
 pub record SameText (d e : Done) : Type 0 where
   pub status : d .status ≡ e .status

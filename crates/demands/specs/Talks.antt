@@ -22,9 +22,10 @@ use Rattle.answer.specs.Answer.{Answer, raised, sessionOf}
 use Rattle.details.specs.Details.{settingsReply}
 use Rattle.tag.specs.declared.Outcome.{Outcome}
 use Rattle.tag.specs.declared.Outcome.the-variants.{Replied, SmallRoom, WrongRandom, Unsound}
+use Rattle.tag.specs.declared.Called.{Called}
 use Rattle.tag.specs.Wrapped.{commandData, openingOf}
-use Rattle.tag.specs.Call.{answered, replyOf, outcomeOf}
-use Rattle.series.specs.Series.{Asked, step, accepting}
+use Rattle.tag.specs.Call.{answered, replyOf, outcomeOf, Calls}
+use Rattle.series.specs.Series.{Asked, step, after, accepts}
 use Rattle.series.specs.Worked.{selectApplication, settingsOf}
 
 -- what a call says: its outcome and the reply, none where it is refused
@@ -51,6 +52,42 @@ saidAll t (a ∷ more) = said t a ∷ saidAll (step t a) more
 unfoldable pub Alike : Tag → Tag → Type 0
 Alike t u = (asked : List Asked) → saidAll t asked ≡ saidAll u asked
 
+-- ---- what `call` promises, in these words
+-- what a caller has from a call: its result, and the room then
+pub record Had : Type 0 where
+  pub result : Called
+  pub room : List ℕ
+
+-- what that says: the outcome, and as many bytes of the room as the length says
+abbrev pub saying : Had → Said
+saying h = record { outcome = h .result .outcome; reply = take (h .result .length) (h .room) }
+
+-- the next state is that of `step`, outcome and reply are those of `said`, and the rest of the room is as it was
+pub record Speaks (t : Tag) (a : Asked) (h : Had) : Type 0 where
+  pub state : h .result .tag ≡ step t a
+  pub says : saying h ≡ said t a
+  pub rest : drop (h .result .length) (h .room) ≡ drop (h .result .length) (a .room)
+
+-- a series as a caller plays it: every call by the promise of `call`, from the state that the one before gave back
+unfoldable pub Played : Tag → List Asked → List Had → Type 0
+Played t [] [] = Unit
+Played t [] (h ∷ had) = ⊥
+Played t (a ∷ more) [] = ⊥
+Played t (a ∷ more) (h ∷ had) = Calls t (a .command) (a .random) (a .room) (h .result) (h .room) × Played (h .result .tag) more had
+
+-- the state that a caller holds at the end, and all that was said
+unfoldable pub held : Tag → List Had → Tag
+held t [] = t
+held t (h ∷ had) = held (h .result .tag) had
+
+unfoldable pub sayings : List Had → List Said
+sayings [] = []
+sayings (h ∷ had) = saying h ∷ sayings had
+
+pub record SpeaksAll (t : Tag) (asked : List Asked) (had : List Had) : Type 0 where
+  pub state : held t had ≡ after t asked
+  pub says : sayings had ≡ saidAll t asked
+
 -- ---- ChangeFileSettings
 -- CLA 90, INS 5F, file n
 unfoldable pub isChange : List ℕ → ℕ → Bool
@@ -73,17 +110,9 @@ stringIn t c =
     let h = readingIn (t .files) (byteAt (commandData c) 0) .settings .head in
     plainOf (openingOf t 0x5F (commandData c) (modeOf (accessFor 0x5F (t .live) h)))
 
-abbrev pub replies : Outcome → Bool
-replies Replied = true
-replies SmallRoom = false
-replies WrongRandom = false
-replies Unsound = false
-
 -- a call that changes the settings of file n: it is a change of that file, and the reply accepts it
 unfoldable pub changes : Tag → Asked → ℕ → Bool
-changes t a n =
-    and (replies (outcomeOf t (a .random) (a .room)))
-    (and (isChange (a .command) n) (accepting (answered t (a .command) (a .random) .status)))
+changes t a n = and (isChange (a .command) n) (accepts t a)
 
 -- the normal form of the last change of file n that a series accepts; s where there is none
 unfoldable pub lastChange : Tag → List Asked → ℕ → List ℕ → List ℕ
@@ -118,6 +147,12 @@ telling n =
     record { command = selectApplication; random = replicate 20 0; room = replicate 258 0 }
     ∷ record { command = settingsOf n; random = replicate 20 0; room = replicate 258 0 }
     ∷ []
+
+-- two changes of file n whose tags answer that series alike have one normal form
+abbrev pub Tells : Tag → ℕ → List ℕ → List ℕ → List ℕ → Type 0
+Tells t n c d random =
+    saidAll (answered t c random .tag) (telling n) ≡ saidAll (answered t d random .tag) (telling n)
+    → normal (stringIn t c) ≡ normal (stringIn t d)
 
 -- two changes: alike in every later series, and one normal form
 pub record Exactly (t : Tag) (c d random : List ℕ) : Type 0 where

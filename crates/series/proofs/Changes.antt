@@ -6,7 +6,7 @@ use mathlib.Core.List.{List, []}
 use Prim.Native.Nat.{ℕ}
 use lib.Dec.{eqb}
 use lib.ListN.{length}
-use Rattle.base.specs.Decide.{or}
+use Rattle.base.specs.Decide.{and, or}
 use Rattle.messaging.specs.declared.Mode.{Mode}
 use Rattle.messaging.specs.declared.Mode.the-variants.{Plain, Mac, Full}
 use Rattle.messaging.specs.Reply.{overlong, closedLength, hiddenLength}
@@ -17,24 +17,12 @@ use Rattle.answer.specs.Taps.{shown}
 use Rattle.answer.specs.Filing.{storedIso, tapRead}
 use Rattle.auth.specs.Parts.{begun, enteredFirst, enteredNext, entered}
 use Rattle.selects.specs.Selects.{moved, selectedFile}
-use Rattle.tag.specs.Call.{answered}
-use Rattle.series.specs.Series.{accepting}
+use Rattle.tag.specs.declared.Outcome.{Outcome}
+use Rattle.tag.specs.declared.Outcome.the-variants.{Replied, SmallRoom, WrongRandom, Unsound}
+use Rattle.tag.specs.Call.{answered, outcomeOf, replied, unanswered, byOutcome}
+use Rattle.series.specs.Series.{Asked, step, accepting, passing, replies, accepts, Ended, Same}
 use Rattle.series.proofs.Choices.{not-both, way}
 use Rattle.series.proofs.Walk.{Kinds, every-answer}
-
--- an answer that only ends session, pending part two and tap
-pub record Ended (t : Tag) (a : Answer) : Type 0 where
-  pub state : a .tag ≡ endedOf t
-  pub empty : a .text ≡ []
-
--- files and keys as they were
-pub record Same (t u : Tag) : Type 0 where
-  pub files : u .files ≡ t .files
-  pub secrets : u .secrets ≡ t .secrets
-
--- 9000, 9100 and 91AF
-unfoldable pub passing : ℕ → Bool
-passing status = or (accepting status) (eqb status 0x91AF)
 
 abbrev EndedOr : Tag → Answer → Type 0
 EndedOr t a = passing (a .status) ≡ false → Ended t a
@@ -47,8 +35,8 @@ passes : (status : ℕ) → accepting status ≡ true → {A : Type 0} → passi
 unfolding passing
 passes status e {A} h = absurd (not-both (sym h ∙ ap (λ b. or b (eqb status 0x91AF)) e))
 
-accepts : (status : ℕ) → accepting status ≡ true → {A : Type 0} → accepting status ≡ false → A
-accepts status e {A} h = absurd (not-both (sym h ∙ e))
+fair : (status : ℕ) → accepting status ≡ true → {A : Type 0} → accepting status ≡ false → A
+fair status e {A} h = absurd (not-both (sym h ∙ e))
 
 yes-9000 : accepting 0x9000 ≡ true
 unfolding accepting
@@ -117,20 +105,57 @@ same-kinds t c random =
       answers =
           λ m d.
           way (SameOr t) (overlong m (length d)) (λ e h. record { files = refl; secrets = refl }) (λ e h. record { files = refl; secrets = refl });
-      rekeys = λ s. accepts (accepted _ Full [] .status) (accepted-none _ Full);
-      rekeys-first = λ s. accepts 0x9100 yes-9100;
-      writes = λ n at p m. accepts (accepted _ m [] .status) (accepted-none _ m);
-      writes-iso = λ n at p. accepts 0x9000 yes-9000;
-      restrings = λ n p m s g. accepts (accepted _ m [] .status) (accepted-none _ m);
+      rekeys = λ s. fair (accepted _ Full [] .status) (accepted-none _ Full);
+      rekeys-first = λ s. fair 0x9100 yes-9100;
+      writes = λ n at p m. fair (accepted _ m [] .status) (accepted-none _ m);
+      writes-iso = λ n at p. fair 0x9000 yes-9000;
+      restrings = λ n p m s g. fair (accepted _ m [] .status) (accepted-none _ m);
       taps =
           λ n iso status refusing at count e s l p f.
-          way (SameOr t) (eqb (shown t (readingIn (t .files) n) iso random .status) 0) (λ z. accepts status e)
+          way (SameOr t) (eqb (shown t (readingIn (t .files) n) iso random .status) 0) (λ z. fair status e)
           (λ z h. record { files = refl; secrets = refl });
-      reads-iso = λ n at count. accepts 0x9000 yes-9000;
-      moves = λ application. accepts 0x9000 yes-9000;
+      reads-iso = λ n at count. fair 0x9000 yes-9000;
+      moves = λ application. fair 0x9000 yes-9000;
       selects =
-          λ n h. way (SameOr t) (t .place .application) (λ e. accepts 0x9000 yes-9000) (λ e h. record { files = refl; secrets = refl });
+          λ n h. way (SameOr t) (t .place .application) (λ e. fair 0x9000 yes-9000) (λ e h. record { files = refl; secrets = refl });
     }
 
 pub changed-accepted : (t : Tag) (c random : List ℕ) → accepting (answered t c random .status) ≡ false → Same t (answered t c random .tag)
 changed-accepted t c random = every-answer t c random (SameOr t) (same-kinds t c random)
+
+-- ---- a call
+-- refusals 1 to 3 leave the tag as it was
+pub refused-call : (t : Tag) (a : Asked) → replies (outcomeOf t (a .random) (a .room)) ≡ false → step t a ≡ t
+unfolding step unanswered
+refused-call t a = by (outcomeOf t (a .random) (a .room))
+  where
+    by : (o : Outcome) → replies o ≡ false → byOutcome t (answered t (a .command) (a .random)) o .tag ≡ t
+    by Replied e = absurd (not-both (sym e))
+    by SmallRoom e = refl
+    by WrongRandom e = refl
+    by Unsound e = refl
+
+-- a reply with a status that does not pass only ends session, pending part two and tap
+pub ended-call : (t : Tag) (a : Asked) → replies (outcomeOf t (a .random) (a .room)) ≡ true
+    → passing (answered t (a .command) (a .random) .status) ≡ false → step t a ≡ endedOf t
+unfolding step replied
+ended-call t a = by (outcomeOf t (a .random) (a .room))
+  where
+    by : (o : Outcome) → replies o ≡ true → passing (answered t (a .command) (a .random) .status) ≡ false
+        → byOutcome t (answered t (a .command) (a .random)) o .tag ≡ endedOf t
+    by Replied e h = otherwise-ended t (a .command) (a .random) h .state
+    by SmallRoom e h = absurd (not-both e)
+    by WrongRandom e h = absurd (not-both e)
+    by Unsound e h = absurd (not-both e)
+
+-- files, settings, keys and versions change only in a call with an accepting reply
+pub changed-call : (t : Tag) (a : Asked) → accepts t a ≡ false → Same t (step t a)
+unfolding step accepts replied unanswered
+changed-call t a = by (outcomeOf t (a .random) (a .room))
+  where
+    by : (o : Outcome) → and (replies o) (accepting (answered t (a .command) (a .random) .status)) ≡ false
+        → Same t (byOutcome t (answered t (a .command) (a .random)) o .tag)
+    by Replied e = changed-accepted t (a .command) (a .random) e
+    by SmallRoom e = record { files = refl; secrets = refl }
+    by WrongRandom e = record { files = refl; secrets = refl }
+    by Unsound e = record { files = refl; secrets = refl }

@@ -6,5 +6,6 @@ pub mod Fine
 pub mod Settled
 pub mod Soundness
 pub mod Changes
+pub mod Computing
 pub mod Examples
 pub mod Born
