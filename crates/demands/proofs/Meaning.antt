@@ -77,15 +77,15 @@ answers-settings u n random =
     answered (moved u true .tag) (settingsOf n) random ≡ accepted (moved u true .tag) Plain (settingsReply (rulesOf (u .files) n) (sizeOf n))
 
 tells-1 : (u : Tag) (random : List ℕ) → answers-settings u 1 random
-unfolding a-wrapped-command a-message answered settingsOf moved noLive noPending accessFor fileSettings
+unfolding a-wrapped-command a-message answered settingsOf moved noLive noPending accessFor fileSettings placed endedOf talking
 tells-1 u random = refl
 
 tells-2 : (u : Tag) (random : List ℕ) → answers-settings u 2 random
-unfolding a-wrapped-command a-message answered settingsOf moved noLive noPending accessFor fileSettings
+unfolding a-wrapped-command a-message answered settingsOf moved noLive noPending accessFor fileSettings placed endedOf talking
 tells-2 u random = refl
 
 tells-3 : (u : Tag) (random : List ℕ) → answers-settings u 3 random
-unfolding a-wrapped-command a-message answered settingsOf moved noLive noPending accessFor fileSettings
+unfolding a-wrapped-command a-message answered settingsOf moved noLive noPending accessFor fileSettings placed endedOf talking
 tells-3 u random = refl
 
 tells : (u : Tag) (random : List ℕ) (n : ℕ) → 1 ≤ n → n ≤ 3 → answers-settings u n random

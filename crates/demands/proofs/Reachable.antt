@@ -35,7 +35,7 @@ use Rattle.state.specs.declared.Access.the-variants.{In, Never as NeverIn, Deni
 use Rattle.state.specs.declared.Grant.the-variants.{ByKey, ByTap, Free, Never, Denied}
 use Rattle.state.specs.declared.Live.{Live}
 use Rattle.state.specs.declared.Tag.{Tag}
-use Rattle.state.specs.State.{rulesOf, readingIn}
+use Rattle.state.specs.State.{rulesOf, readingIn, talking, tapped, filed}
 use Rattle.state.specs.Fresh.{rightUid}
 use Rattle.state.specs.Access.{granted, changeGrant, inMode as accessIn, accessFor}
 use Rattle.state.specs.Sound.{soundTag}
@@ -76,7 +76,7 @@ record EGrants (change : ℕ) (m : Mode) : Type 0 where
   mode : m ≡ Plain
 
 by-grant : (live : Bool) (key change : ℕ) (m : Mode) (k e f : Bool) → eqb change key ≡ k → eqb change 14 ≡ e
-    → inMode (pick (and live (or k k)) ByKey (pick (and (pick live false true) false) ByTap (pick (or e e) Free (pick (and f (and f true)) Never Denied)))) Full ≡ In m
+    → accessIn (pick (and live (or k k)) ByKey (pick (and (pick live false true) false) ByTap (pick (or e e) Free (pick (and f (and f true)) Never Denied)))) Full ≡ In m
     → KeyGrants live key change m ⊎ EGrants change m
 by-grant true key change m true e f p q a = inl (record { on = refl; right = eqb-true change key p; mode = sym (ap modeIn a) })
 by-grant true key change m false true f p q a = inr (record { right = eqb-true change 14 q; mode = sym (ap modeIn a) })
