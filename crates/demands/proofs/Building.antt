@@ -27,7 +27,8 @@ use Rattle.messaging.specs.Command.{wrapped}
 use Rattle.messaging.proofs.Unpadding.{padded-length}
 use Rattle.state.specs.declared.Tag.{Tag}
 use Rattle.answer.specs.Answer.{Answer}
-use Rattle.tag.specs.Wrapped.{oneOf, formRight, partOf, orderStatus, headerLength, fileStatus, byteStatus, frontStatus, talk, commanded, wrapped as onWrapped}
+use Rattle.settings.specs.Filing.{fileStatus}
+use Rattle.tag.specs.Wrapped.{oneOf, formRight, partOf, orderStatus, headerLength, byteStatus, frontStatus, talk, commanded, wrapped as onWrapped}
 use Rattle.tag.specs.Call.{answered}
 use Rattle.series.proofs.Choices.{not-both, way, both-true, or-right}
 use Rattle.demands.specs.Reaching.{built}

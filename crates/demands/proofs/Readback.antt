@@ -21,7 +21,8 @@ use Rattle.state.specs.State.{slotOf, sizeOf, rulesOf}
 use Rattle.state.specs.Access.{accessFor}
 use Rattle.answer.specs.Answer.{Answer, refusal, accepted}
 use Rattle.strings.specs.Strings.{settingsReply, fileSettings}
-use Rattle.tag.specs.Wrapped.{oneOf, formRight, partOf, wrappedCommands, orderStatus, headerLength, fileStatus, byteStatus, frontStatus, own, openingOf, onOpening, inMode, talk, commanded, wrapped}
+use Rattle.settings.specs.Filing.{fileStatus}
+use Rattle.tag.specs.Wrapped.{oneOf, formRight, partOf, wrappedCommands, orderStatus, headerLength, byteStatus, frontStatus, own, openingOf, onOpening, inMode, talk, commanded, wrapped}
 use Rattle.tag.specs.Call.{answered}
 use Rattle.series.specs.Series.{Asked, step, after, accepting}
 use Rattle.series.proofs.Choices.{not-both, way, not-true}

@@ -23,7 +23,8 @@ use Rattle.strings.specs.Strings.{settingsReply, fileSettings}
 use Rattle.contents.specs.Contents.{readData}
 use Rattle.selects.specs.Selects.{moved, selectedFile, ofId, byId, byName, selected}
 use Rattle.binaries.specs.Binaries.{mayPass, mayUse, readPart as readPartIso, readRange, readBinary}
-use Rattle.tag.specs.Wrapped.{oneOf, formRight, partOf, orderStatus, headerLength, hasData, fileStatus, byteStatus, frontStatus, own, inMode, talk, commanded, wrapped}
+use Rattle.settings.specs.Filing.{fileStatus}
+use Rattle.tag.specs.Wrapped.{oneOf, formRight, partOf, orderStatus, headerLength, hasData, byteStatus, frontStatus, own, inMode, talk, commanded, wrapped}
 use Rattle.tag.specs.InterIndustry.{isoForm, lcOf, hasLe, dataOf, fits, onFile, isoCommanded, interIndustry}
 use Rattle.tag.specs.Call.{answered, withStatus, replyOf}
 use Rattle.series.specs.Worked.{selectApplication, selectFile, settingsOf, readThird, inApplication, onSecond}
