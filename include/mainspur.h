@@ -53,12 +53,13 @@ mainspur_size mainspur_call(unsigned char *image, mainspur_size image_length, co
                             unsigned char *room, mainspur_size room_length);
 
 /* Whether a settings string is good for a file: 0x9100, or the status word 0x917E (length) or 0x919E (parameter) that
- * ChangeFileSettings would answer. */
+ * ChangeFileSettings would answer. A file byte over 31 is 0x919E, another that is not 1 to 3 is 0x91F0, whatever the string. */
 unsigned short mainspur_settings_check(unsigned char file, const unsigned char *text, mainspur_size text_length);
 
 /* The normal form of a settings string.
  * 3 to 27: its length, which is that of the string. It stands at the front of the room, and the rest is as it was.
- * 0x917E, 0x919E (a bad string), MAINSPUR_NO_ROOM, in this order: the room is as it was. */
+ * 0x919E, 0x91F0 (a file byte over 31, or not 1 to 3), 0x917E, 0x919E (a bad string), MAINSPUR_NO_ROOM, in this order: the
+ * room is as it was. */
 mainspur_size mainspur_settings_normalise(unsigned char file, const unsigned char *text, mainspur_size text_length,
                                           unsigned char *room, mainspur_size room_length);
 

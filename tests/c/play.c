@@ -144,6 +144,13 @@ static void settings_strings(void) {
     expect(mainspur_settings_check(2, good, 15) == 0x9100, "a good settings string");
     expect(mainspur_settings_check(3, good, 15) == 0x919E, "SDM on file 3");
     expect(mainspur_settings_check(2, good, 14) == 0x917E, "a settings string that is cut");
+    expect(mainspur_settings_check(0, good, 15) == 0x91F0 && mainspur_settings_check(4, good, 15) == 0x91F0, "files 0 and 4");
+    expect(mainspur_settings_check(9, good, 15) == 0x91F0 && mainspur_settings_check(31, good, 15) == 0x91F0, "files 9 and 31");
+    expect(mainspur_settings_check(32, good, 15) == 0x919E && mainspur_settings_check(255, good, 15) == 0x919E, "files over 31");
+    expect(mainspur_settings_check(9, good, 0) == 0x91F0 && mainspur_settings_check(32, good, 0) == 0x919E,
+           "a file byte before an empty string");
+    expect(mainspur_settings_normalise(9, good, 15, room, BIG) == 0x91F0, "normalising for file 9");
+    expect(mainspur_settings_normalise(32, good, 0, room, BIG) == 0x919E, "normalising for file 32");
     expect(mainspur_settings_normalise(2, good, 15, room, 14) == MAINSPUR_NO_ROOM, "a room of 14 bytes");
     expect(mainspur_settings_normalise(2, good, 14, room, BIG) == 0x917E, "normalising a settings string that is cut");
     expect(same(room, blank, BIG), "a room after a refused settings string");

@@ -28,7 +28,8 @@ use Rattle.messaging.specs.Command.{sentCommand}
 use Rattle.padding.proofs.Unpadding.{padded-length}
 use Rattle.state.specs.declared.Tag.{Tag}
 use Rattle.answer.specs.Answer.{Answer}
-use Rattle.tag.specs.Wrapped.{oneOf, formRight, commandData, orderStatus, headerLength, fileStatus, byteStatus, frontStatus, fromStep5, commanded, wrapped as onWrapped}
+use Rattle.settings.specs.Filing.{fileStatus}
+use Rattle.tag.specs.Wrapped.{oneOf, formRight, commandData, orderStatus, headerLength, byteStatus, frontStatus, fromStep5, commanded, wrapped as onWrapped}
 use Rattle.tag.specs.Call.{answered}
 use Rattle.series.proofs.Choices.{not-both, way, both-true, or-right}
 use Rattle.demands.specs.Reaching.{built}

@@ -15,7 +15,7 @@ use Rattle.messaging.specs.Command.{openedStatus}
 use Rattle.settings.specs.declared.Status.{Status}
 use Rattle.settings.specs.declared.Status.the-variants.{LengthError, ParameterError}
 use Rattle.settings.specs.declared.Verdict.{Verdict}
-use Rattle.settings.specs.declared.Verdict.the-variants.{Good, Refused}
+use Rattle.settings.specs.declared.Verdict.the-variants.{Good, Refused, WrongFile}
 use Rattle.settings.specs.Answers.{judged, statusWord}
 use Rattle.state.specs.declared.Access.{Access}
 use Rattle.state.specs.declared.Access.the-variants.{In, Never, Denied}
@@ -23,8 +23,11 @@ use Rattle.state.specs.declared.Tag.{Tag}
 use Rattle.state.specs.State.{readingIn}
 use Rattle.state.specs.Access.{accessFor, accessStatus, grantStatus}
 use Rattle.answer.specs.Answer.{Answer, refusal, accepted}
+use Rattle.settings.specs.declared.FileFault.{FileFault}
+use Rattle.settings.specs.declared.FileFault.the-variants.{OverThirtyOne, NoSuchFile}
+use Rattle.settings.specs.Filing.{fileFaultWord, fileStatus}
 use Rattle.details.specs.Details.{changedSettings, byVerdict}
-use Rattle.tag.specs.Wrapped.{oneOf, formRight, commandData, wrappedCommands, orderStatus, headerLength, fileStatus, byteStatus, frontStatus}
+use Rattle.tag.specs.Wrapped.{oneOf, formRight, commandData, wrappedCommands, orderStatus, headerLength, byteStatus, frontStatus}
 use Rattle.tag.specs.Wrapped.{own, openingOf, onOpening, fromStep7, onAccess, fromStep5, commanded, wrapped}
 use Rattle.tag.specs.Call.{answered}
 use Rattle.series.specs.Series.{accepting}
@@ -108,6 +111,11 @@ unfolding accepting statusWord
 word-refuses LengthError = refl
 word-refuses ParameterError = refl
 
+fault-refuses : (f : FileFault) → accepting (fileFaultWord f) ≡ false
+unfolding accepting
+fault-refuses OverThirtyOne = refl
+fault-refuses NoSuchFile = refl
+
 -- step 5 passed
 front-file : (short application : Bool) (s : ℕ) → eqb (pick short 0x917E (pick application s 0x919D)) 0 ≡ true → s ≡ 0
 front-file true application s e = absurd (not-both e)
@@ -137,6 +145,7 @@ module _ (t : Tag) (c random : List ℕ) (class : byteAt c 0 ≡ 0x90) (command 
   unfolding n
   verdict-change p m s i f Good e = λ h. record { mode = m; text = p; sent = s; idle = i; place = f; good = e; is = refl }
   verdict-change p m s i f (Refused r) e = refused (statusWord r) (word-refuses r)
+  verdict-change p m s i f (WrongFile x) e = refused (fileFaultWord x) (fault-refuses x)
 
   opening-change : (m : Mode) → accessFor 0x5F (t .live) (readingIn (t .files) n .settings .head) ≡ In m → t .pending .on ≡ false
       → fileStatus n ≡ 0 → (o : Opening) → openingOf t 0x5F (commandData c) m ≡ o → P (onOpening t 0x5F (commandData c) m random o)

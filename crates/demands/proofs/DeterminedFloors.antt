@@ -12,6 +12,8 @@ use Rattle.aes.specs.Block.{cipher, invCipher}
 use Rattle.aes.specs.Cbc.{cbcOut, cbcBack, Chains}
 use Rattle.aes.specs.Cmac.{cmac, evenPlaces, mac}
 use Rattle.key_expansion.specs.Keys.{keyExpansion}
+use Rattle.settings.specs.declared.FileFault.{FileFault}
+use Rattle.settings.specs.declared.Filed.{Filed}
 use Rattle.settings.specs.declared.Head.{Head}
 use Rattle.writing.specs.declared.Normalised.{Normalised}
 use Rattle.settings.specs.declared.Places.{Places}
@@ -24,6 +26,7 @@ use Rattle.writing.specs.declared.Written.{Written}
 use Rattle.settings.specs.Fields.{headOf, readOf, present, listed}
 use Rattle.settings.specs.Spans.{readingOf}
 use Rattle.settings.specs.Rules.{meets}
+use Rattle.settings.specs.Filing.{fileFaultWord, fileJudged}
 use Rattle.settings.specs.Answers.{statusWord, judged, readAs}
 use Rattle.writing.specs.Answers.{normalised, normalRoom, writtenAs, writtenRoom}
 use Rattle.messaging.specs.declared.Closed.{Closed}
@@ -139,6 +142,12 @@ present-fields-determined h = once
 pub in-order-determined : (p : Places) → Determined (λ (r : List ℕ). r ≡ listed p)
 in-order-determined p = once
 
+pub file-fault-word-determined : (f : FileFault) → Determined (λ (r : ℕ). r ≡ fileFaultWord f)
+file-fault-word-determined f = once
+
+pub judge-file-determined : (file : ℕ) → Determined (λ (r : Filed). r ≡ fileJudged file)
+judge-file-determined file = once
+
 pub meets-determined : (file : ℕ) (r : Settings) → Determined (λ (x : Bool). x ≡ meets file r)
 meets-determined file r = once
 
@@ -148,7 +157,7 @@ pub normalise-determined : (file : ℕ) (s room : List ℕ)
 normalise-determined file s room = twice
 
 pub write-determined : (file : ℕ) (r : Settings) (room : List ℕ)
-    → DeterminedIn (λ (w : Written) (new : List ℕ). (w ≡ writtenAs (meets file r) r room) × (new ≡ writtenRoom (meets file r) r room))
+    → DeterminedIn (λ (w : Written) (new : List ℕ). (w ≡ writtenAs file r room) × (new ≡ writtenRoom file r room))
 write-determined file r room = twice
 
 -- ---- crc

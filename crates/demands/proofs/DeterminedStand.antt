@@ -4,14 +4,14 @@ use mathlib.Core.Bool.{Bool}
 use mathlib.Core.List.{List}
 use mathlib.Core.Path.{_≡_}
 use Prim.Native.Nat.{ℕ}
-use Rattle.settings.specs.Answers.{judged}
-use Rattle.writing.specs.Answers.{normalised, normalRoom}
+use Rattle.settings.specs.Answers.{judged, verdictWord}
+use Rattle.writing.specs.Answers.{normalised, normalRoom, normalNumber}
 use Rattle.state.specs.declared.Tag.{Tag}
 use Rattle.image.specs.declared.Read.{Read}
 use Rattle.image.specs.declared.Stored.{Stored}
 use Rattle.image.specs.Image.{imageLength}
 use Rattle.image.specs.Answers.{readIn, storedIn, imageIn}
-use Rattle.stand.specs.Answers.{Makes, Plays, verdictWord, normalNumber}
+use Rattle.stand.specs.Answers.{Makes, Plays}
 use Rattle.plans.specs.declared.Meaning.{Meaning}
 use Rattle.plans.specs.Plan.{said, goodBytes, bytesRoom, meaningOf, commandRoom, randomRoom}
 use Rattle.demands.specs.Determining.{Determined, DeterminedIn, DeterminedRooms}

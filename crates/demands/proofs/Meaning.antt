@@ -30,6 +30,7 @@ use Rattle.details.specs.Details.{settingsReply, fileSettings, withRules, restr
 use Rattle.selects.specs.Selects.{moved, byName, selected}
 use Rattle.tag.specs.declared.Outcome.{Outcome}
 use Rattle.tag.specs.declared.Outcome.the-variants.{Replied}
+use Rattle.settings.specs.Filing.{fileStatus}
 use Rattle.tag.specs.Wrapped.{oneOf, commandData}
 use Rattle.tag.specs.InterIndustry.{isoForm, lcOf, dataOf, isoCommanded, interIndustry}
 use Rattle.tag.specs.Call.{answered, withStatus, replyOf, outcomeOf, replied, byOutcome}

@@ -152,7 +152,7 @@ module _ (t : Tag) (n : ℕ) (r : Settings) (m : Mode) (h : Ready t n m) (e : me
   unfolding changing
   reach =
       let s = stringOf r in
-      let g = one-string n r e .good in
+      let g = one-string n r (h .first) (h .last) e .good in
       let x = carried t m n s in
       let b = string-bytes n r e in
       let P : Answer → Type 0 = λ a. a ≡ given (changed t n s) 0x9100 (closed (sessionOf (raised (t .live))) m 0 []) in
@@ -163,7 +163,7 @@ module _ (t : Tag) (n : ℕ) (r : Settings) (m : Mode) (h : Ready t n m) (e : me
   kept : rulesOf (changed t n (stringOf r) .files) n ≡ stringOf r
   unfolding changed afterwards restrung padOut talking tapped filed
   kept =
-      let o = one-string n r e in
+      let o = one-string n r (h .first) (h .last) e in
       restored (t .files) (h .slots .rules) (h .slots .lens) n (stringOf r) (o .good) n refl (small n (h .first) (h .last)) ∙ o .own
 
   reply-plain : (s : Session) (u : Tag) → replyOf (given u 0x9100 (closed s Plain 0 [])) ≡ 0x91 ∷ 0x00 ∷ []
@@ -227,7 +227,7 @@ module _ (t : Tag) (n : ℕ) (r : Settings) (m : Mode) (h : Ready t n m) (e : me
 
     pub reachable : Reached t n r m random room
     reachable =
-        let o = one-string n r e in
+        let o = one-string n r (h .first) (h .last) e in
         record {
           string = o;
           answers = replies;

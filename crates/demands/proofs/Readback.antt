@@ -21,8 +21,9 @@ use Rattle.state.specs.State.{sizeOf, rulesOf}
 use Rattle.state.specs.Access.{accessFor}
 use Rattle.state.specs.Sound.{soundTag}
 use Rattle.answer.specs.Answer.{Answer, refusal, accepted}
+use Rattle.settings.specs.Filing.{fileStatus}
 use Rattle.details.specs.Details.{settingsReply, fileSettings}
-use Rattle.tag.specs.Wrapped.{oneOf, formRight, commandData, wrappedCommands, orderStatus, headerLength, fileStatus, byteStatus, frontStatus}
+use Rattle.tag.specs.Wrapped.{oneOf, formRight, commandData, wrappedCommands, orderStatus, headerLength, byteStatus, frontStatus}
 use Rattle.tag.specs.Wrapped.{own, openingOf, onOpening, fromStep7, fromStep5, commanded, wrapped}
 use Rattle.tag.specs.Call.{answered}
 use Rattle.series.specs.Series.{Asked, step, after, accepting, Slots}

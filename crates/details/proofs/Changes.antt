@@ -11,12 +11,14 @@ use Rattle.base.specs.Decide.{pick}
 use Rattle.base.specs.Bytes.{laid, over}
 use Rattle.base.proofs.Bytes.{drop-replicate}
 use Rattle.messaging.specs.declared.Mode.{Mode}
+use Rattle.settings.specs.declared.FileFault.{FileFault}
 use Rattle.settings.specs.declared.Status.{Status}
 use Rattle.settings.specs.declared.Verdict.{Verdict}
-use Rattle.settings.specs.declared.Verdict.the-variants.{Good, Refused}
-use Rattle.writing.specs.declared.Normalised.the-variants.{Normal, BadString, RoomTooSmall}
+use Rattle.settings.specs.declared.Verdict.the-variants.{Good, Refused, WrongFile}
+use Rattle.writing.specs.declared.Normalised.the-variants.{Normal, BadFile, BadString, RoomTooSmall}
 use Rattle.settings.specs.Answers.{judged, statusWord}
 use Rattle.writing.specs.Answers.{normalised}
+use Rattle.settings.specs.Filing.{fileFaultWord}
 use Rattle.settings.specs.Normal.{normal}
 use Rattle.meanings.proofs.NormalForm.{normal-length}
 use Rattle.meanings.proofs.Mirrors.{good-length}
@@ -65,12 +67,31 @@ bad-verdict Good s room e h = absurd (never (leb (length s) (length room)) (leng
     never true n e h = let z : _≡_ {A = ℕ} 0 1 = cc in omega arith
     never false n e h = let z : _≡_ {A = ℕ} 0 1 = cc in omega arith
 bad-verdict (Refused x) s room e h = cc
+bad-verdict (WrongFile x) s room e h = let z : _≡_ {A = ℕ} 0 1 = cc in absurd (omega arith)
 
 pub bad-changes : (t : Tag) (n : ℕ) (p room : List ℕ) (m : Mode) (e : Status) (w : ℕ) (d : Done)
     → normalised (judged n p) p room ≡ BadString e → w ≡ statusWord e → Gives (refusal t w) d → Gives (changedSettings t n p m) d
 unfolding changedSettings
 bad-changes t n p room m e w d h q g =
     subst (λ v. Gives (byVerdict t n p m v) d) (sym (bad-verdict (judged n p) p room e h))
+    (subst (λ y. Gives (refusal t y) d) q g)
+
+-- and so is a file byte
+bad-file : (v : Verdict) (s room : List ℕ) (e : FileFault) → normalised v s room ≡ BadFile e → v ≡ WrongFile e
+unfolding normalised
+bad-file Good s room e h = absurd (never (leb (length s) (length room)) (length s) e h)
+  where
+    never : (t : Bool) (n : ℕ) (e : FileFault) → pick t (Normal n) RoomTooSmall ≡ BadFile e → ⊥
+    never true n e h = let z : _≡_ {A = ℕ} 0 1 = cc in omega arith
+    never false n e h = let z : _≡_ {A = ℕ} 0 1 = cc in omega arith
+bad-file (Refused x) s room e h = let z : _≡_ {A = ℕ} 0 1 = cc in absurd (omega arith)
+bad-file (WrongFile x) s room e h = cc
+
+pub file-changes : (t : Tag) (n : ℕ) (p room : List ℕ) (m : Mode) (e : FileFault) (w : ℕ) (d : Done)
+    → normalised (judged n p) p room ≡ BadFile e → w ≡ fileFaultWord e → Gives (refusal t w) d → Gives (changedSettings t n p m) d
+unfolding changedSettings
+file-changes t n p room m e w d h q g =
+    subst (λ v. Gives (byVerdict t n p m v) d) (sym (bad-file (judged n p) p room e h))
     (subst (λ y. Gives (refusal t y) d) q g)
 
 -- a good string is never too long for 27 bytes
@@ -82,6 +103,7 @@ too-long Good s room h = (refl, leb-false (length s) (length room) (longer (leb 
     longer true n h = let z : _≡_ {A = ℕ} 0 1 = cc in absurd (omega arith)
     longer false n h = refl
 too-long (Refused x) s room h = let z : _≡_ {A = ℕ} 0 1 = cc in absurd (omega arith)
+too-long (WrongFile x) s room h = let z : _≡_ {A = ℕ} 0 1 = cc in absurd (omega arith)
 
 pub room-enough : (n : ℕ) (p : List ℕ) → normalised (judged n p) p (replicate 27 0) ≡ RoomTooSmall → ⊥
 room-enough n p h =

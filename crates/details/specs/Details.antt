@@ -8,8 +8,9 @@ use Rattle.base.specs.Bytes.{laid, low, over}
 use Rattle.messaging.specs.declared.Mode.{Mode}
 use Rattle.messaging.specs.declared.Mode.the-variants.{Full}
 use Rattle.settings.specs.declared.Verdict.{Verdict}
-use Rattle.settings.specs.declared.Verdict.the-variants.{Good, Refused}
+use Rattle.settings.specs.declared.Verdict.the-variants.{Good, Refused, WrongFile}
 use Rattle.settings.specs.Answers.{judged, statusWord}
+use Rattle.settings.specs.Filing.{fileFaultWord}
 use Rattle.settings.specs.Normal.{normal}
 use Rattle.state.specs.declared.Files.{Files}
 use Rattle.state.specs.declared.Tag.{Tag}
@@ -51,6 +52,7 @@ abbrev pub byVerdict : Tag → ℕ → List ℕ → Mode → Verdict → Answer
 byVerdict t n p m Good =
     accepted (restrung t (withRules (t .files) n (normal p ++ replicate (27 - length p) 0) (length p)) n) m []
 byVerdict t n p m (Refused e) = refusal t (statusWord e)
+byVerdict t n p m (WrongFile f) = refusal t (fileFaultWord f)
 
 unfoldable pub changedSettings : Tag → ℕ → List ℕ → Mode → Answer
 changedSettings t n p m = byVerdict t n p m (judged n p)

@@ -137,13 +137,15 @@ fn restring(tag: Tag, f: Files, n: u8) -> Tag
     t
 }
 
-// ChangeFileSettings of file n. A good string has at most 27 bytes, so the room is never too small.
+// ChangeFileSettings of file n. A good string has at most 27 bytes, so the room is never too small; step 5 has judged the file
+// byte before.
 pub fn change_settings(tag: Tag, n: u8, p: &[u8], m: Mode) -> Done
     ensures { λ r. ⌜ Gives (changedSettings tag n (now (p .entry)) m) r ⌝ }
 {
     let mut text = [0u8; 27];
     let a = writing::normalise(n, p, &mut text);
     match a {
+        Normalised::BadFile(f) => answer::refuse(tag, settings::file_fault_word(f)),
         Normalised::BadString(e) => answer::refuse(tag, settings::status_word(e)),
         Normalised::RoomTooSmall => answer::refuse(tag, 0x917E),
         Normalised::Normal(k) => {

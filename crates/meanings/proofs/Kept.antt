@@ -4,10 +4,10 @@ use mathlib.Core.Bool.{Bool, true, false}
 use mathlib.Core.List.{List, [], _∷_}
 use Prim.Native.Nat.{ℕ, _≤_}
 use native.Mathlib.Omega.{arith}
-use lib.Dec.{eqb}
+use lib.Dec.{eqb, ltb}
 use lib.ListN.{length}
 use borrow.Author.Tests.{leb-true, eqb-true}
-use Rattle.base.specs.Decide.{pick}
+use Rattle.base.specs.Decide.{pick, or}
 use Rattle.base.specs.Bytes.{byteAt}
 use Rattle.settings.specs.declared.Head.{Head}
 use Rattle.settings.specs.declared.Settings.{Settings}
@@ -20,13 +20,16 @@ use Rattle.settings.specs.declared.Check.the-variants.{OptionBits, SdmFile, Rig
 use Rattle.settings.specs.declared.Check.the-variants.{MetaMirrors, MetaOff, EncNeeds, EncSize}
 use Rattle.settings.specs.declared.Check.the-variants.{UidInside, CounterInside, PiccInside, EncInside, MacInside}
 use Rattle.settings.specs.declared.Check.the-variants.{Shared, MacInput, EncBetween}
-use Rattle.settings.specs.declared.Verdict.the-variants.{Good}
+use Rattle.settings.specs.declared.FileFault.the-variants.{OverThirtyOne, NoSuchFile}
+use Rattle.settings.specs.declared.Verdict.{Verdict}
+use Rattle.settings.specs.declared.Verdict.the-variants.{Good, WrongFile}
 use Rattle.settings.specs.Fields.{sdmOn, headOf, placesIn, sizeOf}
 use Rattle.settings.specs.Spans.{uidSpan, counterSpan, piccSpan, encSpan, macSpan, spansOf, inside, allApart}
 use Rattle.settings.specs.Rules.{Rule, there, right, found, kept, optionBits, sdmFile, rights, sdmOptionsBits, sdmRights}
 use Rattle.settings.specs.Rules.{metaMirrors, metaOff, encNeeds, encSize, macInput, encBetween}
 use Rattle.settings.specs.Rules.{positionRules, sdmRules, restRules, rules}
 use Rattle.settings.specs.Answers.{verdictOf, judged}
+use Rattle.settings.proofs.Filing.{one-to-three}
 
 -- the first rule of a list holds, and the rest is kept
 pub record Held (b : Bool) (rs : List Rule) : Type 0 where
@@ -55,13 +58,19 @@ good-kept Kept e = refl
 good-kept (Missing p) e = let z : _≡_ {A = ℕ} 0 1 = cc in absurd (omega arith)
 good-kept (Wrong k) e = let z : _≡_ {A = ℕ} 0 1 = cc in absurd (omega arith)
 
+-- a string is good only for a file that there is
+file-good : (a b : Bool) (v : Verdict) → pick a (WrongFile OverThirtyOne) (pick b (WrongFile NoSuchFile) v) ≡ Good → v ≡ Good
+file-good true b v e = let z : _≡_ {A = ℕ} 0 1 = cc in absurd (omega arith)
+file-good false true v e = let z : _≡_ {A = ℕ} 0 1 = cc in absurd (omega arith)
+file-good false false v e = e
+
 pub kept-rules : (n : ℕ) (s : List ℕ) → judged n s ≡ Good → found (rules n s) ≡ Kept
 unfolding judged
-kept-rules n s e = good-kept (found (rules n s)) e
+kept-rules n s e = good-kept (found (rules n s)) (file-good (ltb 31 n) (or (eqb n 0) (ltb 3 n)) _ e)
 
-pub rules-kept : (n : ℕ) (s : List ℕ) → found (rules n s) ≡ Kept → judged n s ≡ Good
+pub rules-kept : (n : ℕ) (s : List ℕ) → 1 ≤ n → n ≤ 3 → found (rules n s) ≡ Kept → judged n s ≡ Good
 unfolding judged verdictOf
-rules-kept n s e = ap verdictOf e
+rules-kept n s h k e = one-to-three n WrongFile (verdictOf (found (rules n s))) h k ∙ ap verdictOf e
 
 -- what every good string keeps
 pub record Front (n : ℕ) (s : List ℕ) : Type 0 where

@@ -13,10 +13,11 @@ use Rattle.base.specs.Decide.{pick, and}
 use Rattle.base.specs.Bytes.{byteAt}
 use Rattle.base.proofs.Bytes.{le-or-lt}
 use Rattle.settings.specs.declared.Head.{Head}
-use Rattle.settings.specs.declared.Verdict.the-variants.{Good}
+use Rattle.settings.specs.declared.Verdict.the-variants.{Good, WrongFile}
 use Rattle.settings.specs.Fields.{bit, sdmOn, sdmByte, modeOf, headOf, present, three, after, fields, placesIn, placesOf, readOf}
 use Rattle.settings.specs.Rules.{found, optionBits, sdmRules, restRules, rules}
 use Rattle.settings.specs.Normal.{plainMode, freeBits, normal}
+use Rattle.settings.specs.Filing.{byFault}
 use Rattle.settings.specs.Answers.{verdictOf, judged}
 
 -- a number is 2 or not
@@ -171,7 +172,7 @@ normal-rules n s =
 
 pub normal-judged : (n : ℕ) (s : List ℕ) → judged n (normal s) ≡ judged n s
 unfolding judged
-normal-judged n s = ap (λ l. verdictOf (found l)) (normal-rules n s)
+normal-judged n s = ap (λ l. byFault n WrongFile (verdictOf (found l))) (normal-rules n s)
 
 -- A normal form is good and its own normal form
 pub normal-good : (n : ℕ) (s : List ℕ) → judged n s ≡ Good → (judged n (normal s) ≡ Good) × (normal (normal s) ≡ normal s)

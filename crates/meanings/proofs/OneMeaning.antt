@@ -95,11 +95,11 @@ unfolding frontBytes sdmBytes
 sdm-first h w = packed-good (h .uid) (h .counter) (h .limit) (h .enc)
 
 -- the rules of a string whose parts are known
-string-kept : (n : ℕ) (s : List ℕ) (h : Head) → headOf s ≡ h → 3 ≤ length s → optionBits (byteAt s 0) ≡ true → sdmFile n h ≡ true → rights h ≡ true
+string-kept : (n : ℕ) (s : List ℕ) (h : Head) → 1 ≤ n → n ≤ 3 → headOf s ≡ h → 3 ≤ length s → optionBits (byteAt s 0) ≡ true → sdmFile n h ≡ true → rights h ≡ true
     → found (restRules s h) ≡ Kept → judged n s ≡ Good
 unfolding rules
-string-kept n s h e l o f r k =
-    rules-kept n s
+string-kept n s h i j e l o f r k =
+    rules-kept n s i j
     (there-kept OptionByte _ _ (le-leb 1 (length s) (omega arith))
     (right-kept OptionBits _ _ o
     (right-kept SdmFile _ _ (ap (λ x. sdmFile n x) e ∙ f)
@@ -107,10 +107,10 @@ string-kept n s h e l o f r k =
     (right-kept Rights _ _ (ap rights e ∙ r)
     (ap (λ x. found (restRules s x)) e ∙ k))))))
 
-judged-on : (n : ℕ) (r : Settings) → meets n r ≡ true → r .head .sdm ≡ true
+judged-on : (n : ℕ) (r : Settings) → 1 ≤ n → n ≤ 3 → meets n r ≡ true → r .head .sdm ≡ true
     → judged n (frontBytes (r .head) ++ (sdmBytes (r .head) ++ written (present (r .head)) (listed (r .places)))) ≡ Good
 unfolding sdmRules
-judged-on n r e o =
+judged-on n r i j e o =
     let h = r .head in
     let w = written (present h) (listed (r .places)) in
     let s = frontBytes h ++ (sdmBytes h ++ w) in
@@ -119,7 +119,7 @@ judged-on n r e o =
     let p = sdm-parts r (trip.part-on n r e o) in
     let l : length (frontBytes h ++ (sdmBytes h ++ w)) ≡ 6 + length w = omega (arith, front-long h (sdmBytes h ++ w), sdm-long h w) in
     let z : length (frontBytes h ++ (sdmBytes h ++ w)) ≡ sizeOf h = l ∙ written-length (present h) (listed (r .places)) 6 (trip.same-number h (r .places)) ∙ sym (trip.size-on h o) in
-    string-kept n s h (x .head) (omega arith) (front-first h (sdmBytes h ++ w) (m .mode)) (m .file) (m .conditions)
+    string-kept n s h i j (x .head) (omega arith) (front-first h (sdmBytes h ++ w) (m .mode)) (m .file) (m .conditions)
     (ap found (rest-on s h (trip.front-sdm h (sdmBytes h ++ w) (m .mode) ∙ o))
     ∙ there-kept SdmOptionsByte _ _ (le-leb 4 (length s) (omega arith))
     (right-kept SdmOptionsBits _ _ (sdm-first h w)
@@ -146,22 +146,22 @@ none-found : found [] ≡ Kept
 unfolding found
 none-found = refl
 
-judged-off : (n : ℕ) (r : Settings) → meets n r ≡ true → r .head .sdm ≡ false → judged n (frontBytes (r .head)) ≡ Good
-judged-off n r e o =
+judged-off : (n : ℕ) (r : Settings) → 1 ≤ n → n ≤ 3 → meets n r ≡ true → r .head .sdm ≡ false → judged n (frontBytes (r .head)) ≡ Good
+judged-off n r i j e o =
     let h = r .head in
     let m = meets-parts n r e in
     let x = trip.whole-off n r e o in
-    string-kept n (frontBytes h) h (x .head) (three-long h) (first-alone h (m .mode)) (m .file) (m .conditions)
+    string-kept n (frontBytes h) h i j (x .head) (three-long h) (first-alone h (m .mode)) (m .file) (m .conditions)
     (ap found (rest-off (frontBytes h) h (trip.front-sdm-alone h (m .mode) ∙ o))
     ∙ there-kept Whole _ _ (eq-eqb _ _ (three-is h ∙ sym (trip.size-off h o))) none-found)
 
 -- The string of a record that meets the rules is good
-pub written-good : (n : ℕ) (r : Settings) → meets n r ≡ true → judged n (stringOf r) ≡ Good
-written-good n r e = by (r .head .sdm) refl
+pub written-good : (n : ℕ) (r : Settings) → 1 ≤ n → n ≤ 3 → meets n r ≡ true → judged n (stringOf r) ≡ Good
+written-good n r i j e = by (r .head .sdm) refl
   where
     by : (t : Bool) → r .head .sdm ≡ t → judged n (stringOf r) ≡ Good
-    by true o = ap (λ s. judged n s) (trip.whole-on n r e o .is) ∙ judged-on n r e o
-    by false o = ap (λ s. judged n s) (trip.whole-off n r e o .is) ∙ judged-off n r e o
+    by true o = ap (λ s. judged n s) (trip.whole-on n r e o .is) ∙ judged-on n r i j e o
+    by false o = ap (λ s. judged n s) (trip.whole-off n r e o .is) ∙ judged-off n r i j e o
 
 -- ---- and made of bytes
 bytes-append : (a b : List ℕ) → AllBytes a → AllBytes b → AllBytes (a ++ b)
@@ -222,9 +222,9 @@ string-bytes n r e =
     (bytes-append (sdmBytes (r .head)) _ (sdm-bytes (r .head) (meets-rights n r e)) (written-bytes (present (r .head)) (listed (r .places)))))
 
 -- ---- the theorems
-pub one-string : (n : ℕ) (r : Settings) → meets n r ≡ true → OneString n r (stringOf r)
-one-string n r e =
-    let g = written-good n r e in
+pub one-string : (n : ℕ) (r : Settings) → 1 ≤ n → n ≤ 3 → meets n r ≡ true → OneString n r (stringOf r)
+one-string n r i j e =
+    let g = written-good n r i j e in
     let b = trip.read-written n r e in
     record {
       good = g;

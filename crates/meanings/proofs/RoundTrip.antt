@@ -15,7 +15,8 @@ use Rattle.settings.specs.declared.Head.{Head}
 use Rattle.settings.specs.declared.Places.{Places}
 use Rattle.settings.specs.declared.Settings.{Settings}
 use Rattle.settings.specs.declared.Verdict.the-variants.{Good}
-use Rattle.settings.specs.Fields.{bit, sdmOn, sdmByte, modeOf, headOf, hasUid, hasCounter, hasPicc, hasMac, hasEnc, present, fields, ends, written, placesOf, listed, placesIn, readOf, sizeOf, frontBytes, sdmBytes, stringOf}
+use Rattle.settings.specs.Fields.{bit, sdmOn, sdmByte, modeOf, headOf, hasUid, hasCounter, hasPicc, hasMac, hasEnc}
+use Rattle.settings.specs.Fields.{present, fields, ends, written, placesOf, listed, placesIn, readOf, sizeOf, frontBytes, sdmBytes, stringOf}
 use Rattle.settings.specs.Rules.{optionBits, rights, sdmOptionsBits, sdmRights, fieldFits, fieldsFit, sdmMeets, sdmAbsent, sdmPart, modes, meets}
 use Rattle.settings.specs.Normal.{plainMode, freeBits, normal}
 use Rattle.settings.specs.Answers.{judged}
@@ -163,13 +164,45 @@ head-on h w o m r q =
     let x = on-byte (frontBytes h ++ (sdmBytes h ++ w)) in
     let y = t ∙ o in
     head-front (frontBytes h ++ (sdmBytes h ++ w))
-    ∙ rw (x 3 y, x 4 y, x 5 y, t, mode-read (h .mode) (h .sdm) m, high (h .read) (h .write) (f .write), low-half (h .read) (h .write) (f .write), high (h .both) (h .change) (f .change), low-half (h .both) (h .change) (f .change), high (h .meta) (h .file) (g .file), low-half (h .meta) (h .file) (g .file), ret-read (h .ret) (g .ret), packed-7 (h .uid) (h .counter) (h .limit) (h .enc), packed-6 (h .uid) (h .counter) (h .limit) (h .enc), packed-5 (h .uid) (h .counter) (h .limit) (h .enc), packed-4 (h .uid) (h .counter) (h .limit) (h .enc))
+    ∙ rw (
+      x 3 y,
+      x 4 y,
+      x 5 y,
+      t,
+      mode-read (h .mode) (h .sdm) m,
+      high (h .read) (h .write) (f .write),
+      low-half (h .read) (h .write) (f .write),
+      high (h .both) (h .change) (f .change),
+      low-half (h .both) (h .change) (f .change),
+      high (h .meta) (h .file) (g .file),
+      low-half (h .meta) (h .file) (g .file),
+      ret-read (h .ret) (g .ret),
+      packed-7 (h .uid) (h .counter) (h .limit) (h .enc),
+      packed-6 (h .uid) (h .counter) (h .limit) (h .enc),
+      packed-5 (h .uid) (h .counter) (h .limit) (h .enc),
+      packed-4 (h .uid) (h .counter) (h .limit) (h .enc),
+    )
     refl
 
 -- with SDM off its parts are 0
 module _ (m r w b c x f q : ℕ) (t u k l e : Bool) where
   without : u ≡ false → k ≡ false → l ≡ false → e ≡ false → x ≡ 0 → f ≡ 0 → q ≡ 0
-      → _≡_ {A = Head} (record { mode = m; read = r; write = w; both = b; change = c; sdm = t; uid = false; counter = false; limit = false; enc = false; meta = 0; file = 0; ret = 0 }) (record { mode = m; read = r; write = w; both = b; change = c; sdm = t; uid = u; counter = k; limit = l; enc = e; meta = x; file = f; ret = q })
+      → _≡_ {A = Head} (record {
+        mode = m;
+        read = r;
+        write = w;
+        both = b;
+        change = c;
+        sdm = t;
+        uid = false;
+        counter = false;
+        limit = false;
+        enc = false;
+        meta = 0;
+        file = 0;
+        ret = 0;
+      })
+      (record { mode = m; read = r; write = w; both = b; change = c; sdm = t; uid = u; counter = k; limit = l; enc = e; meta = x; file = f; ret = q })
   without pu pk pl pe px pf pq = rw (pu, pk, pl, pe, px, pf, pq) refl
 
 pub record Off (h : Head) : Type 0 where
@@ -217,8 +250,19 @@ head-off h o m r a =
     let x = zero-byte (frontBytes h) in
     let y = t ∙ o in
     head-front (frontBytes h)
-    ∙ rw (x 3 y, x 4 y, x 5 y, t, mode-read (h .mode) (h .sdm) m, high (h .read) (h .write) (f .write), low-half (h .read) (h .write) (f .write), high (h .both) (h .change) (f .change), low-half (h .both) (h .change) (f .change))
-    (without (h .mode) (h .read) (h .write) (h .both) (h .change) (h .meta) (h .file) (h .ret) (h .sdm) (h .uid) (h .counter) (h .limit) (h .enc) (a .uid) (a .counter) (a .limit) (a .enc) (a .meta) (a .file) (a .ret))
+    ∙ rw (
+      x 3 y,
+      x 4 y,
+      x 5 y,
+      t,
+      mode-read (h .mode) (h .sdm) m,
+      high (h .read) (h .write) (f .write),
+      low-half (h .read) (h .write) (f .write),
+      high (h .both) (h .change) (f .change),
+      low-half (h .both) (h .change) (f .change),
+    )
+    (without (h .mode) (h .read) (h .write) (h .both) (h .change) (h .meta) (h .file) (h .ret)
+    (h .sdm) (h .uid) (h .counter) (h .limit) (h .enc) (a .uid) (a .counter) (a .limit) (a .enc) (a .meta) (a .file) (a .ret))
 
 off-present : (h : Head) → h .sdm ≡ false → Off h → Absent h
 unfolding hasUid hasCounter hasPicc hasMac hasEnc

@@ -9,6 +9,7 @@ use Rattle.settings.specs.Fields.{three, fields, ends, placesOf, placesIn, size
 use Rattle.settings.specs.Spans.{span, uidSpan, counterSpan, piccSpan, encSpan, macSpan, readingOf}
 use Rattle.settings.specs.Rules.{found, optionBits, sdmFile, condition, rights, restRules, rules}
 use Rattle.settings.specs.Normal.{plainMode, freeBits, normal}
+use Rattle.settings.specs.Filing.{fileStatus}
 use Rattle.settings.specs.Answers.{verdictOf, judged, statusWord}
 use Rattle.state.specs.State.{startOf, sizeOf as fileSize, fileOf, slotOf, rulesOf, readingIn, noLive, noPending, quieted, endedOf, placed, talking, tapped, filed}
 use Rattle.state.specs.Fresh.{container, deliveredFiles, freshTag}
@@ -20,7 +21,7 @@ use Rattle.details.specs.Details.{settingsReply, fileSettings, withRules, recou
 use Rattle.contents.specs.Contents.{readData}
 use Rattle.selects.specs.Selects.{moved, selectedFile, ofId, byId, byName, selected}
 use Rattle.binaries.specs.Binaries.{mayPass, mayUse, isoPart, readRange, readBinary}
-use Rattle.tag.specs.Wrapped.{oneOf, formRight, commandData, orderStatus, headerLength, hasData, fileStatus, byteStatus, frontStatus}
+use Rattle.tag.specs.Wrapped.{oneOf, formRight, commandData, orderStatus, headerLength, hasData, byteStatus, frontStatus}
 use Rattle.tag.specs.Wrapped.{own, fromStep7, fromStep5, commanded, wrapped}
 use Rattle.tag.specs.InterIndustry.{isoForm, lcOf, hasLe, dataOf, fits, onFile, isoCommanded, interIndustry}
 use Rattle.tag.specs.Call.{answered, withStatus, replyOf}

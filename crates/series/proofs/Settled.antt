@@ -14,7 +14,7 @@ use Rattle.base.proofs.Bytes.{and-left, and-right, laid-length, same-refl}
 use Rattle.messaging.specs.declared.Mode.{Mode}
 use Rattle.settings.specs.declared.Reading.{Reading}
 use Rattle.settings.specs.declared.Verdict.{Verdict}
-use Rattle.settings.specs.declared.Verdict.the-variants.{Good, Refused}
+use Rattle.settings.specs.declared.Verdict.the-variants.{Good, Refused, WrongFile}
 use Rattle.settings.specs.Answers.{judged}
 use Rattle.settings.specs.Normal.{normal}
 use Rattle.settings.specs.Fields.{readOf, headOf, sdmOn}
@@ -42,6 +42,7 @@ use Rattle.series.proofs.Fine.{Calm, Fine, FineAfter, fine-refused, fin
 good-is : (v : Verdict) → good v ≡ true → v ≡ Good
 good-is Good e = refl
 good-is (Refused s) e = absurd (not-both e)
+good-is (WrongFile f) e = absurd (not-both e)
 
 pub rules-good : (f : Files) (n : ℕ) → rulesSound f n ≡ true → judged n (rulesOf f n) ≡ Good
 unfolding rulesSound

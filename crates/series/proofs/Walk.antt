@@ -19,7 +19,7 @@ use Rattle.authentication.specs.Authentication.{proofOf, proofStatus, deciphere
 use Rattle.messaging.specs.Protect.{Opening, plain, wrongLength, wrongMac, wrongPadding}
 use Rattle.messaging.specs.Command.{openedStatus}
 use Rattle.settings.specs.declared.Verdict.{Verdict}
-use Rattle.settings.specs.declared.Verdict.the-variants.{Good, Refused}
+use Rattle.settings.specs.declared.Verdict.the-variants.{Good, Refused, WrongFile}
 use Rattle.settings.specs.Answers.{judged, statusWord}
 use Rattle.settings.specs.declared.Head.{Head}
 use Rattle.state.specs.declared.Access.{Access}
@@ -35,6 +35,7 @@ use Rattle.answer.specs.Filing.{stored, storedIso, tapRead, withBytes}
 use Rattle.auth.specs.Parts.{keyStatus, valuesStatus, firstStatus, nextStatus, pendingFirst, pendingNext, begun, entered, byProof, partOneFirst, partOneNext, partTwoAnswer}
 use Rattle.keyring.specs.Keyring.{newKey, changeStatus, withKey, changedKey, keyVersion}
 use Rattle.details.specs.Details.{cardUid, fileSettings, changedSettings, byVerdict, fileCounters}
+use Rattle.settings.specs.Filing.{fileFaultWord}
 use Rattle.settings.specs.Fields.{three}
 use Rattle.contents.specs.Contents.{rangeStatus, asked, wrappedPart, readData, writeStatus, writtenData}
 use Rattle.selects.specs.Selects.{moved, selectedFile, ofId, byId, byName, selected, piccName, applicationName}
@@ -181,6 +182,7 @@ module _ (t : Tag) (c random : List ℕ) (P : Answer → Type 0) (k : Kinds t c 
   verdict-kind : (n : ℕ) (p : List ℕ) (m : Mode) → Sent t c n p m → (v : Verdict) → judged n p ≡ v → P (byVerdict t n p m v)
   verdict-kind n p m s Good e = k .restrings n p m s e
   verdict-kind n p m s (Refused r) e = k .refuses (statusWord r)
+  verdict-kind n p m s (WrongFile f) e = k .refuses (fileFaultWord f)
 
   settings-kind : (n : ℕ) (p : List ℕ) (m : Mode) → Sent t c n p m → P (changedSettings t n p m)
   unfolding changedSettings

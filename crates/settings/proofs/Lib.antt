@@ -1,3 +1,4 @@
 pub mod Cursor
+pub mod Filing
 pub mod Found
 pub mod Pairs

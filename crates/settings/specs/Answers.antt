@@ -4,14 +4,15 @@ use Prim.Native.Nat.{ℕ}
 use Rattle.settings.specs.declared.Status.{Status}
 use Rattle.settings.specs.declared.Status.the-variants.{LengthError, ParameterError}
 use Rattle.settings.specs.declared.Verdict.{Verdict}
-use Rattle.settings.specs.declared.Verdict.the-variants.{Good, Refused}
+use Rattle.settings.specs.declared.Verdict.the-variants.{Good, Refused, WrongFile}
 use Rattle.settings.specs.declared.Finding.{Finding}
 use Rattle.settings.specs.declared.Finding.the-variants.{Kept, Missing, Wrong}
 use Rattle.settings.specs.declared.Told.{Told}
-use Rattle.settings.specs.declared.Told.the-variants.{Means, Unread}
+use Rattle.settings.specs.declared.Told.the-variants.{Means, Unread, UnreadFile}
 use Rattle.settings.specs.Fields.{readOf}
 use Rattle.settings.specs.Spans.{readingOf}
 use Rattle.settings.specs.Rules.{rules, found}
+use Rattle.settings.specs.Filing.{byFault, fileFaultWord}
 
 -- Table 71: LENGTH_ERROR 7E, PARAMETER_ERROR 9E, behind 91
 unfoldable pub statusWord : Status → ℕ
@@ -24,11 +25,24 @@ verdictOf Kept = Good
 verdictOf (Missing p) = Refused LengthError
 verdictOf (Wrong k) = Refused ParameterError
 
--- the verdict on a string for file n
+-- the verdict on a string for file n; the file byte is judged before the string is looked at
 unfoldable pub judged : ℕ → List ℕ → Verdict
-judged n s = verdictOf (found (rules n s))
+judged n s = byFault n WrongFile (verdictOf (found (rules n s)))
+
+-- its number, 9100 for a good string
+unfoldable pub verdictWord : Verdict → ℕ
+verdictWord Good = 0x9100
+verdictWord (Refused e) = statusWord e
+verdictWord (WrongFile f) = fileFaultWord f
 
 -- Reading a string
 unfoldable pub readAs : Verdict → List ℕ → Told
 readAs Good s = Means (readingOf (readOf s))
 readAs (Refused e) s = Unread e
+readAs (WrongFile f) s = UnreadFile f
+
+-- its number, 9100 where the string is read
+unfoldable pub toldWord : Told → ℕ
+toldWord (Means r) = 0x9100
+toldWord (Unread e) = statusWord e
+toldWord (UnreadFile f) = fileFaultWord f

@@ -2,6 +2,7 @@
 ghost use mathlib.Core.Path.{_≡_};
 ghost use Rattle.settings.specs.Fields.{readOf};
 ghost use Rattle.settings.specs.Spans.{readingOf};
+ghost use Rattle.settings.specs.Filing.{fileFaultWord, fileJudged};
 ghost use Rattle.settings.specs.Answers.{statusWord, judged, readAs};
 
 mod fields;
@@ -75,9 +76,22 @@ pub enum Status {
     ParameterError,
 }
 
+// What is wrong with a file byte: over 31, or not 1 to 3.
+pub enum FileFault {
+    OverThirtyOne,
+    NoSuchFile,
+}
+
+// Whether there is a file of a number.
+pub enum Filed {
+    Known,
+    Unknown(FileFault),
+}
+
 pub enum Verdict {
     Good,
     Refused(Status),
+    WrongFile(FileFault),
 }
 
 // The parts that 01 calls missing, the last for a whole length that is wrong.
@@ -121,6 +135,7 @@ pub enum Finding {
 pub enum Told {
     Means(Reading),
     Unread(Status),
+    UnreadFile(FileFault),
 }
 
 // The number of a status.
@@ -133,11 +148,41 @@ pub fn status_word(s: Status) -> u16
     }
 }
 
-// Whether a string is good for a file, or its status.
+// The number of what is wrong with a file byte.
+pub fn file_fault_word(f: FileFault) -> u16
+    ensures { λ r. ⌜ r ≡ fileFaultWord f ⌝ }
+{
+    match f {
+        FileFault::OverThirtyOne => 0x919E,
+        FileFault::NoSuchFile => 0x91F0,
+    }
+}
+
+// Whether there is a file of a number.
+pub fn judge_file(file: u8) -> Filed
+    ensures { λ r. ⌜ r ≡ fileJudged file ⌝ }
+{
+    if 31 < file {
+        return Filed::Unknown(FileFault::OverThirtyOne);
+    }
+    if file == 0 {
+        return Filed::Unknown(FileFault::NoSuchFile);
+    }
+    if 3 < file {
+        return Filed::Unknown(FileFault::NoSuchFile);
+    }
+    Filed::Known
+}
+
+// Whether a string is good for a file, or its status; the file byte is judged before the string is looked at.
 pub fn judge(file: u8, s: &[u8]) -> Verdict
     ensures { λ r. ⌜ r ≡ judged file (now (s .entry)) ⌝ }
 {
-    rules::verdict(rules::broken(file, s))
+    let f = judge_file(file);
+    match f {
+        Filed::Known => rules::verdict(rules::broken(file, s)),
+        Filed::Unknown(e) => Verdict::WrongFile(e),
+    }
 }
 
 // What the bytes mean, whether the string is good or not: 0 stands for a byte that is not there.
@@ -155,5 +200,6 @@ pub fn read(file: u8, s: &[u8]) -> Told
     match v {
         Verdict::Good => Told::Means(meaning(s)),
         Verdict::Refused(e) => Told::Unread(e),
+        Verdict::WrongFile(f) => Told::UnreadFile(f),
     }
 }

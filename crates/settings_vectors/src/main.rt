@@ -6,8 +6,7 @@ use lines::Decoded;
 use writing::Normalised;
 
 // The status of a refusal, as four digits.
-fn show_status(s: settings::Status, out: &mut [u8]) -> usize {
-    let w = settings::status_word(s);
+fn show_status(w: u16, out: &mut [u8]) -> usize {
     lines::encode(&[(w / 256 % 256) as u8, (w % 256) as u8], out);
     4
 }
@@ -18,7 +17,8 @@ fn answer(file: u8, s: &[u8], out: &mut [u8]) -> usize {
     let a = writing::normalise(file, s, &mut room);
     match a {
         Normalised::Normal(n) => show_front(&room, n, out),
-        Normalised::BadString(e) => show_status(e, out),
+        Normalised::BadFile(f) => show_status(settings::file_fault_word(f), out),
+        Normalised::BadString(e) => show_status(settings::status_word(e), out),
         Normalised::RoomTooSmall => 0,
     }
 }

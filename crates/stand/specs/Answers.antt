@@ -6,11 +6,6 @@ use Prim.Native.Nat.{ℕ, _+_}
 use lib.Dec.{leb}
 use lib.ListN.{length}
 use Rattle.base.specs.Decide.{pick, and}
-use Rattle.settings.specs.declared.Verdict.{Verdict}
-use Rattle.settings.specs.declared.Verdict.the-variants.{Good, Refused}
-use Rattle.writing.specs.declared.Normalised.{Normalised}
-use Rattle.writing.specs.declared.Normalised.the-variants.{Normal, BadString, RoomTooSmall}
-use Rattle.settings.specs.Answers.{statusWord}
 use Rattle.state.specs.declared.Tag.{Tag}
 use Rattle.state.specs.declared.Made.{Made}
 use Rattle.state.specs.declared.Made.the-variants.{Fresh, WrongUid}
@@ -75,14 +70,3 @@ pub record Plays (image c random room : List ℕ) (r : ℕ) (image′ room′ : 
   pub kept : image′ ≡ pick (rightLength image) (callImage (answered (stateIn image) c random) image (outcomeOf (stateIn image) random room)) image
   pub left : room′ ≡ pick (rightLength image) (roomBy (answered (stateIn image) c random) room (outcomeOf (stateIn image) random room)) room
   pub apart : leb r 258 ≡ and (rightLength image) (isReply (outcomeOf (stateIn image) random room))
-
--- ---- settings strings: 9100, or the status of a bad one
-unfoldable pub verdictWord : Verdict → ℕ
-verdictWord Good = 0x9100
-verdictWord (Refused e) = statusWord e
-
--- the length of the normal string, the status of a bad one, or 1006 for a room that it doesn't fit in
-unfoldable pub normalNumber : Normalised → ℕ
-normalNumber (Normal n) = n
-normalNumber (BadString e) = statusWord e
-normalNumber RoomTooSmall = 1006

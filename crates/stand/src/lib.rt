@@ -1,10 +1,10 @@
 // The C border: numbers and byte slices alone, the state as an image of 672 bytes. include/mainspur.h declares it.
 ghost use mathlib.Core.Path.{_≡_};
 ghost use lib.ListN.{length};
-ghost use Rattle.settings.specs.Answers.{judged};
-ghost use Rattle.writing.specs.Answers.{normalised, normalRoom};
+ghost use Rattle.settings.specs.Answers.{judged, verdictWord};
+ghost use Rattle.writing.specs.Answers.{normalised, normalRoom, normalNumber};
 ghost use Rattle.image.specs.Image.{imageLength};
-ghost use Rattle.stand.specs.Answers.{Makes, Answers, Plays, verdictWord, normalNumber};
+ghost use Rattle.stand.specs.Answers.{Makes, Answers, Plays};
 use settings::Verdict;
 use state::Made;
 use state::Tag;
@@ -76,7 +76,7 @@ pub extern "C" fn mainspur_call(
     answer(t, state, command, random, room)
 }
 
-// Whether a settings string is good for a file, or its status.
+// Whether a settings string is good for a file, or the status of the file byte or the string.
 #[no_mangle]
 pub extern "C" fn mainspur_settings_check(file: u8, text: &[u8]) -> u16
     ensures { λ r. ⌜ r ≡ verdictWord (judged file (now (text .entry))) ⌝ }
@@ -85,6 +85,7 @@ pub extern "C" fn mainspur_settings_check(file: u8, text: &[u8]) -> u16
     match v {
         Verdict::Good => 0x9100,
         Verdict::Refused(e) => settings::status_word(e),
+        Verdict::WrongFile(f) => settings::file_fault_word(f),
     }
 }
 
@@ -97,6 +98,7 @@ pub extern "C" fn mainspur_settings_normalise(file: u8, text: &[u8], room: &mut 
     let n = writing::normalise(file, text, room);
     match n {
         Normalised::Normal(k) => k,
+        Normalised::BadFile(f) => settings::file_fault_word(f) as usize,
         Normalised::BadString(e) => settings::status_word(e) as usize,
         Normalised::RoomTooSmall => 1006,
     }

@@ -12,11 +12,12 @@ use borrow.Author.Tests.{le-leb, lt-leb, leb-true, leb-false}
 use Rattle.base.specs.Decide.{pick, and}
 use Rattle.base.specs.Bytes.{byteAt, same, over}
 use Rattle.base.proofs.Bytes.{le-or-lt}
+use Rattle.settings.specs.declared.FileFault.{FileFault}
 use Rattle.settings.specs.declared.Status.{Status}
 use Rattle.settings.specs.declared.Verdict.{Verdict}
-use Rattle.settings.specs.declared.Verdict.the-variants.{Good, Refused}
+use Rattle.settings.specs.declared.Verdict.the-variants.{Good, Refused, WrongFile}
 use Rattle.writing.specs.declared.Normalised.{Normalised}
-use Rattle.writing.specs.declared.Normalised.the-variants.{Normal, BadString, RoomTooSmall}
+use Rattle.writing.specs.declared.Normalised.the-variants.{Normal, BadFile, BadString, RoomTooSmall}
 use Rattle.settings.specs.Answers.{judged}
 use Rattle.writing.specs.Answers.{normalised, normalRoom}
 use Rattle.settings.specs.Normal.{normal}
@@ -91,6 +92,7 @@ pub laid-normal : (v : Verdict) (s room new : List ℕ) (k : ℕ) → normalised
 unfolding normalised normalRoom
 laid-normal Good s room new k e n = laid-by (leb (length s) (length room)) s room new k refl e n
 laid-normal (Refused x) s room new k e n = let z : _≡_ {A = ℕ} 0 1 = cc in absurd (omega arith)
+laid-normal (WrongFile x) s room new k e n = let z : _≡_ {A = ℕ} 0 1 = cc in absurd (omega arith)
 
 normal-length : (s : List ℕ) → length (normal s) ≡ length s
 unfolding normal
@@ -133,6 +135,17 @@ told-bad Good s room e h = absurd (never (leb (length s) (length room)) (length 
     never true n e h = let z : _≡_ {A = ℕ} 0 1 = cc in omega arith
     never false n e h = let z : _≡_ {A = ℕ} 0 1 = cc in omega arith
 told-bad (Refused x) s room e h = sym (and-false (leb (length s) 27))
+told-bad (WrongFile x) s room e h = sym (and-false (leb (length s) 27))
+
+pub told-file : (v : Verdict) (s room : List ℕ) (e : FileFault) → normalised v s room ≡ BadFile e → false ≡ fine v s
+unfolding normalised
+told-file Good s room e h = absurd (never (leb (length s) (length room)) (length s) e h)
+  where
+    never : (t : Bool) (n : ℕ) (e : FileFault) → pick t (Normal n) RoomTooSmall ≡ BadFile e → ⊥
+    never true n e h = let z : _≡_ {A = ℕ} 0 1 = cc in omega arith
+    never false n e h = let z : _≡_ {A = ℕ} 0 1 = cc in omega arith
+told-file (Refused x) s room e h = sym (and-false (leb (length s) 27))
+told-file (WrongFile x) s room e h = sym (and-false (leb (length s) 27))
 
 pub told-long : (v : Verdict) (s room : List ℕ) → length room ≡ 27 → normalised v s room ≡ RoomTooSmall → false ≡ fine v s
 unfolding normalised
@@ -144,3 +157,4 @@ told-long Good s room l h =
     longer true n h = let z : _≡_ {A = ℕ} 0 1 = cc in absurd (omega arith)
     longer false n h = refl
 told-long (Refused x) s room l h = sym (and-false (leb (length s) 27))
+told-long (WrongFile x) s room l h = sym (and-false (leb (length s) 27))

@@ -6,7 +6,7 @@ use lib.Dec.{eqb, leb}
 use Rattle.base.specs.Decide.{pick, and, or}
 use Rattle.base.specs.Bytes.{byteAt, same}
 use Rattle.settings.specs.declared.Verdict.{Verdict}
-use Rattle.settings.specs.declared.Verdict.the-variants.{Good, Refused}
+use Rattle.settings.specs.declared.Verdict.the-variants.{Good, Refused, WrongFile}
 use Rattle.settings.specs.Answers.{judged}
 use Rattle.settings.specs.Normal.{normal}
 use Rattle.state.specs.declared.Files.{Files}
@@ -16,6 +16,7 @@ use Rattle.state.specs.State.{slotOf, rulesOf, readingIn}
 abbrev pub good : Verdict → Bool
 good Good = true
 good (Refused e) = false
+good (WrongFile f) = false
 
 -- a string keeps the rules for file n and is its own normal form
 abbrev pub stringSound : ℕ → List ℕ → Bool

@@ -20,6 +20,7 @@ fn is_normal(n: u8, s: &[u8]) -> bool
     let a = writing::normalise(n, s, &mut room);
     match a {
         Normalised::Normal(k) => base::alike(s, &room[..k]),
+        Normalised::BadFile(_) => false,
         Normalised::BadString(_) => false,
         Normalised::RoomTooSmall => false,
     }

@@ -10,6 +10,7 @@ use Rattle.messaging.specs.declared.Mode.{Mode}
 use Rattle.messaging.specs.Protect.{Opening, plain, wrongLength, wrongMac, wrongPadding}
 use Rattle.messaging.specs.declared.Opened.the-variants.{WrongLength, WrongMac, WrongPadding}
 use Rattle.messaging.specs.Command.{opening, openedStatus}
+use Rattle.settings.specs.Filing.{fileStatus}
 use Rattle.state.specs.declared.Access.{Access}
 use Rattle.state.specs.declared.Access.the-variants.{In, Never, Denied}
 use Rattle.state.specs.declared.Tag.{Tag}
@@ -55,10 +56,6 @@ headerLength ins = pick (eqb ins 0x51) 0 (pick (oneOf ins (0x8D ∷ 0xAD ∷ [])
 -- commands with a data part
 unfoldable pub hasData : ℕ → Bool
 hasData ins = oneOf ins (0x5F ∷ 0x8D ∷ 0xC4 ∷ [])
-
--- file byte over 31: 919E; file not 1 to 3: 91F0
-unfoldable pub fileStatus : ℕ → ℕ
-fileStatus n = pick (ltb 31 n) 0x919E (pick (or (eqb n 0) (ltb 3 n)) 0x91F0 0)
 
 -- the key byte of 64 and C4, the file byte of the others; 51 has none
 unfoldable pub byteStatus : ℕ → ℕ → ℕ

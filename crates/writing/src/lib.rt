@@ -2,7 +2,9 @@
 ghost use mathlib.Core.Path.{_≡_};
 ghost use Rattle.settings.specs.Rules.{meets};
 ghost use Rattle.settings.specs.Answers.{judged};
-ghost use Rattle.writing.specs.Answers.{normalised, normalRoom, writtenAs, writtenRoom};
+ghost use Rattle.writing.specs.Answers.{normalised, normalRoom, recordAs, recordRoom, writtenAs, writtenRoom};
+use settings::FileFault;
+use settings::Filed;
 use settings::Settings;
 use settings::Status;
 use settings::Verdict;
@@ -12,6 +14,7 @@ mod text;
 // What normalising answers: the length of the normal string, or why there is none.
 pub enum Normalised {
     Normal(usize),
+    BadFile(FileFault),
     BadString(Status),
     RoomTooSmall,
 }
@@ -19,6 +22,7 @@ pub enum Normalised {
 // What writing a record answers: the length of its string, or why there is none.
 pub enum Written {
     Laid(usize),
+    NoFile(FileFault),
     BadRecord,
     NoRoom,
 }
@@ -32,13 +36,26 @@ pub fn normalise(file: u8, s: &[u8], room: &mut [u8]) -> Normalised
     match v {
         Verdict::Good => text::lay_normal(s, room),
         Verdict::Refused(e) => Normalised::BadString(e),
+        Verdict::WrongFile(f) => Normalised::BadFile(f),
     }
 }
 
 // The normal string of a record at the front of the room, with its length. A refusal leaves the room.
 pub fn write(file: u8, r: Settings, room: &mut [u8]) -> Written
-    ensures answer { λ w. ⌜ w ≡ writtenAs (meets file r) r (now (room .entry)) ⌝ }
-    ensures left { λ w. ⌜ now (room .exit) ≡ writtenRoom (meets file r) r (now (room .entry)) ⌝ }
+    ensures answer { λ w. ⌜ w ≡ writtenAs file r (now (room .entry)) ⌝ }
+    ensures left { λ w. ⌜ now (room .exit) ≡ writtenRoom file r (now (room .entry)) ⌝ }
+{
+    let f = settings::judge_file(file);
+    match f {
+        Filed::Known => write_record(file, r, room),
+        Filed::Unknown(e) => Written::NoFile(e),
+    }
+}
+
+// The same for a file that there is.
+fn write_record(file: u8, r: Settings, room: &mut [u8]) -> Written
+    ensures answer { λ w. ⌜ w ≡ recordAs (meets file r) r (now (room .entry)) ⌝ }
+    ensures left { λ w. ⌜ now (room .exit) ≡ recordRoom (meets file r) r (now (room .entry)) ⌝ }
 {
     let ok = settings::meets(file, r);
     if ok {

@@ -11,7 +11,7 @@ ghost use Rattle.settings.specs.Fields.{one, after, written, stringOf};
 ghost use Rattle.settings.specs.Rules.{rights, sdmRights, modes};
 ghost use Rattle.settings.specs.Normal.{plainMode, freeBits};
 ghost use Rattle.settings.specs.declared.Verdict.the-variants.{Good};
-ghost use Rattle.writing.specs.Answers.{normalised, normalRoom, writtenAs, writtenRoom};
+ghost use Rattle.writing.specs.Answers.{normalised, normalRoom, recordAs, recordRoom};
 use super::Normalised;
 use super::Written;
 use settings::Head;
@@ -168,8 +168,8 @@ fn lay_front(own: &[u8], n: usize, room: &mut [u8]) -> Written
 // The string of a record that meets the rules.
 pub fn lay_record(r: Settings, room: &mut [u8]) -> Written
     requires { ⌜ (modes (r .head .mode) ≡ true) × (rights (r .head) ≡ true) × (sdmRights (r .head) ≡ true) ⌝ }
-    ensures answer { λ w. ⌜ w ≡ writtenAs true r (now (room .entry)) ⌝ }
-    ensures left { λ w. ⌜ now (room .exit) ≡ writtenRoom true r (now (room .entry)) ⌝ }
+    ensures answer { λ w. ⌜ w ≡ recordAs true r (now (room .entry)) ⌝ }
+    ensures left { λ w. ⌜ now (room .exit) ≡ recordRoom true r (now (room .entry)) ⌝ }
 {
     let mut own = [0u8; 30];
     let n = lay_string(r, &mut own);

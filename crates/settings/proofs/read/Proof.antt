@@ -18,6 +18,9 @@ meaning-requires c κs = search needs
 enum-known-v : tie.Need-enum-known-v
 enum-known-v c = search needs
 
+enum-known-v-2 : tie.Need-enum-known-v-2
+enum-known-v-2 c = search needs
+
 returns : tie.Need-returns
 unfolding readAs
 returns c = rw (sym (c .before .before .before .judge .ensures) ∙ c .before .enum-told .given .1) (ap Means (c .meaning .ensures))
@@ -26,6 +29,11 @@ returns-2 : tie.Need-returns-2
 unfolding readAs
 returns-2 c = rw (sym (c .before .before .before .judge .ensures) ∙ c .before .v .given .1) refl
 
+returns-3 : tie.Need-returns-3
+unfolding readAs
+returns-3 c = rw (sym (c .before .before .before .judge .ensures) ∙ c .before .v2 .given .1) refl
+
 pub read-spec : {M : Type 1} → statement M
 read-spec =
-    tie.close (tie.spec judge-requires enum-told meaning-requires enum-known-v returns returns-2)
+    tie.close
+    (tie.spec judge-requires enum-told meaning-requires enum-known-v enum-known-v-2 returns returns-2 returns-3)

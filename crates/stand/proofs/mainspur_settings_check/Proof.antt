@@ -1,7 +1,7 @@
 -- `stand::mainspur_settings_check` meets its contract.
 use mathlib.Core.Path.{refl, sym, _∙_}
 use borrow.Author.Needs.{needs}
-use Rattle.stand.specs.Answers.{verdictWord}
+use Rattle.settings.specs.Answers.{verdictWord}
 use Rattle.stand.proofs.mainspur_settings_check.Statement.{statement}
 use Rattle.stand.proofs.mainspur_settings_check.Tie as tie
 
@@ -17,6 +17,12 @@ enum-known-v c = search needs
 status-word-requires : tie.Need-status-word-requires
 status-word-requires c κs = search needs
 
+enum-known-v-2 : tie.Need-enum-known-v-2
+enum-known-v-2 c = search needs
+
+file-fault-word-requires : tie.Need-file-fault-word-requires
+file-fault-word-requires c κs = search needs
+
 returns : tie.Need-returns
 unfolding verdictWord
 returns c = rw (sym (c .before .before .judge .ensures) ∙ c .enum-told .given .1) refl
@@ -25,7 +31,20 @@ returns-2 : tie.Need-returns-2
 unfolding verdictWord
 returns-2 c = rw (sym (c .before .before .before .before .judge .ensures) ∙ c .before .before .v .given .1) (c .status-word .ensures)
 
+returns-3 : tie.Need-returns-3
+unfolding verdictWord
+returns-3 c = rw (sym (c .before .before .before .before .judge .ensures) ∙ c .before .before .v2 .given .1) (c .file-fault-word .ensures)
+
 pub mainspur-settings-check-spec : {M : Type 1} → statement M
 mainspur-settings-check-spec =
     tie.close
-    (tie.spec judge-requires enum-told enum-known-v status-word-requires returns returns-2)
+    (tie.spec
+    judge-requires
+    enum-told
+    enum-known-v
+    status-word-requires
+    enum-known-v-2
+    file-fault-word-requires
+    returns
+    returns-2
+    returns-3)

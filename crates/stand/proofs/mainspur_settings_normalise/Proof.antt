@@ -1,7 +1,7 @@
 -- `stand::mainspur_settings_normalise` meets its contract.
 use mathlib.Core.Path.{refl, sym, _∙_}
 use borrow.Author.Needs.{needs}
-use Rattle.stand.specs.Answers.{normalNumber}
+use Rattle.writing.specs.Answers.{normalNumber}
 use Rattle.stand.proofs.mainspur_settings_normalise.Statement.{statement}
 use Rattle.stand.proofs.mainspur_settings_normalise.Tie as tie
 
@@ -14,11 +14,20 @@ enum-known-n c = search needs
 enum-known-n-2 : tie.Need-enum-known-n-2
 enum-known-n-2 c = search needs
 
-status-word-requires : tie.Need-status-word-requires
-status-word-requires c κs = search needs
+file-fault-word-requires : tie.Need-file-fault-word-requires
+file-fault-word-requires c κs = search needs
 
 cast-result : tie.Need-cast-result
 cast-result c = search needs
+
+enum-known-n-3 : tie.Need-enum-known-n-3
+enum-known-n-3 c = search needs
+
+status-word-requires : tie.Need-status-word-requires
+status-word-requires c κs = search needs
+
+cast-result-2 : tie.Need-cast-result-2
+cast-result-2 c = search needs
 
 enum-told : tie.Need-enum-told
 enum-told c = search needs
@@ -28,21 +37,36 @@ same-length c = search needs
 
 returns : tie.Need-returns
 unfolding normalNumber
-returns c = (rw (sym (c .before .before .before .before .before .normalise .ensures .0) ∙ c .before .n .given .1) refl, c .before .before .before .before .before .normalise .ensures .1)
+returns c =
+    let n = c .before .before .before .before .before .normalise .ensures in
+    (rw (sym (n .0) ∙ c .before .n .given .1) refl, n .1)
 
 same-length-2 : tie.Need-same-length-2
 same-length-2 c = search needs
 
 returns-2 : tie.Need-returns-2
 unfolding normalNumber
-returns-2 c = (rw (sym (c .before .before .before .before .before .before .normalise .ensures .0) ∙ c .before .before .n2 .given .1) (c .status-word .ensures), c .before .before .before .before .before .before .normalise .ensures .1)
+returns-2 c =
+    let n = c .before .before .before .before .before .before .normalise .ensures in
+    (rw (sym (n .0) ∙ c .before .before .n2 .given .1) (c .file-fault-word .ensures), n .1)
 
 same-length-3 : tie.Need-same-length-3
 same-length-3 c = search needs
 
 returns-3 : tie.Need-returns-3
 unfolding normalNumber
-returns-3 c = (rw (sym (c .before .before .before .before .normalise .ensures .0) ∙ c .enum-told .given .1) refl, c .before .before .before .before .normalise .ensures .1)
+returns-3 c =
+    let n = c .before .before .before .before .before .before .normalise .ensures in
+    (rw (sym (n .0) ∙ c .before .before .n3 .given .1) (c .status-word .ensures), n .1)
+
+same-length-4 : tie.Need-same-length-4
+same-length-4 c = search needs
+
+returns-4 : tie.Need-returns-4
+unfolding normalNumber
+returns-4 c =
+    let n = c .before .before .before .before .normalise .ensures in
+    (rw (sym (n .0) ∙ c .enum-told .given .1) refl, n .1)
 
 pub mainspur-settings-normalise-spec : {M : Type 1} → statement M
 mainspur-settings-normalise-spec =
@@ -51,12 +75,17 @@ mainspur-settings-normalise-spec =
     normalise-requires
     enum-known-n
     enum-known-n-2
-    status-word-requires
+    file-fault-word-requires
     cast-result
+    enum-known-n-3
+    status-word-requires
+    cast-result-2
     enum-told
     same-length
     returns
     same-length-2
     returns-2
     same-length-3
-    returns-3)
+    returns-3
+    same-length-4
+    returns-4)

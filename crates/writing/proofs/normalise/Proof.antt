@@ -17,6 +17,9 @@ lay-normal-requires c κs = search needs
 enum-known-v : tie.Need-enum-known-v
 enum-known-v c = search needs
 
+enum-known-v-2 : tie.Need-enum-known-v-2
+enum-known-v-2 c = search needs
+
 same-length : tie.Need-same-length
 same-length c = search needs
 
@@ -29,6 +32,10 @@ returns-2 : tie.Need-returns-2
 unfolding normalised normalRoom
 returns-2 c = rw (sym (c .before .before .before .judge .ensures) ∙ c .before .v .given .1) (refl, refl)
 
+returns-3 : tie.Need-returns-3
+unfolding normalised normalRoom
+returns-3 c = rw (sym (c .before .before .before .judge .ensures) ∙ c .before .v2 .given .1) (refl, refl)
+
 pub normalise-spec : {M : Type 1} → statement M
 normalise-spec =
     tie.close
@@ -37,6 +44,8 @@ normalise-spec =
     enum-told
     lay-normal-requires
     enum-known-v
+    enum-known-v-2
     same-length
     returns
-    returns-2)
+    returns-2
+    returns-3)

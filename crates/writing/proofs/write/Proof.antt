@@ -1,32 +1,60 @@
 -- `writing::write` meets its contract.
 use borrow.Author.Needs.{needs}
-use mathlib.Core.Path.{refl, sym, _∙_}
-use Rattle.writing.specs.Answers.{writtenAs, writtenRoom}
-use Rattle.writing.proofs.Meets.{meets-parts, meets-rights}
+use mathlib.Core.Path.{sym, _∙_}
+use Rattle.settings.specs.Rules.{meets}
+use Rattle.settings.proofs.Filing.{known-file, unknown-file}
+use Rattle.writing.specs.declared.Written.the-variants.{NoFile}
+use Rattle.writing.specs.Answers.{recordAs, recordRoom, writtenAs, writtenRoom}
 use Rattle.writing.proofs.write.Statement.{statement}
 use Rattle.writing.proofs.write.Tie as tie
 
-record-meets-requires : tie.Need-record-meets-requires
-record-meets-requires c κs = search needs
+judge-file-requires : tie.Need-judge-file-requires
+judge-file-requires c κs = search needs
 
-lay-record-requires : tie.Need-lay-record-requires
-lay-record-requires c κs =
-    let e = sym (c .before .before .record-meets .ensures) ∙ c .before .if1 .taken in
-    let p = meets-parts _ _ e in
-    (p .mode, p .conditions, meets-rights _ _ e)
+enum-told : tie.Need-enum-told
+enum-told c = search needs
+
+write-record-requires : tie.Need-write-record-requires
+write-record-requires c κs = search needs
+
+enum-known-f : tie.Need-enum-known-f
+enum-known-f c = search needs
 
 same-length : tie.Need-same-length
 same-length c = search needs
 
 returns : tie.Need-returns
+unfolding writtenAs writtenRoom
 returns c =
-    rw (sym (c .before .before .before .before .before .record-meets .ensures) ∙ c .before .before .before .before .if1 .taken)
-    (c .before .before .lay-record .ensures)
+    let s = c .before .before .before .before .before .before .before .before .args in
+    let n = s .file in
+    let d = s .room .now in
+    let e = sym (c .before .before .before .before .before .before .judge-file .ensures) ∙ c .before .before .before .before .enum-told .given .1 in
+    let w = c .before .before .write-record .ensures in (
+      w .0 ∙ sym (known-file n NoFile (recordAs (meets n (s .r)) (s .r) d) e),
+      w .1 ∙ sym (known-file n (λ f. d) (recordRoom (meets n (s .r)) (s .r) d) e),
+    )
 
 returns-2 : tie.Need-returns-2
 unfolding writtenAs writtenRoom
-returns-2 c = rw (sym (c .before .record-meets .ensures) ∙ c .if1 .left) (refl, refl)
+returns-2 c =
+    let s = c .before .before .before .before .before .args in
+    let n = s .file in
+    let d = s .room .now in
+    let g = c .before .f .given .0 .0 in
+    let e = sym (c .before .before .before .judge-file .ensures) ∙ c .before .f .given .1 in (
+      sym (unknown-file n NoFile (recordAs (meets n (s .r)) (s .r) d) g e),
+      sym (unknown-file n (λ f. d) (recordRoom (meets n (s .r)) (s .r) d) g e),
+    )
 
 pub write-spec : {M : Type 1} → statement M
 write-spec =
-    tie.close (tie.spec record-meets-requires lay-record-requires same-length returns returns-2)
+    tie.close
+    (tie.spec
+    judge-file-requires
+    enum-told
+    write-record-requires
+    enum-known-f
+    same-length
+    returns
+    returns-2)

@@ -45,7 +45,11 @@ add-result-2 c = search needs
 
 returns : tie.Need-returns
 unfolding three number
-returns c = rw (c .before .before .before .before .wide .ensures .0 ∙ c .before .before .before .before .before .at .ensures, c .before .before .wide2 .ensures .0 ∙ c .before .before .before .at2 .ensures, c .wide3 .ensures .0 ∙ c .before .at3 .ensures) (omega arith)
+returns c =
+    let a = c .before .before .before .before .wide .ensures .0 ∙ c .before .before .before .before .before .at .ensures in
+    let b = c .before .before .wide2 .ensures .0 ∙ c .before .before .before .at2 .ensures in
+    let d = c .wide3 .ensures .0 ∙ c .before .at3 .ensures in
+    rw (a, b, d) (omega arith)
 
 pub number-at-spec : {M : Type 1} → statement M
 number-at-spec =

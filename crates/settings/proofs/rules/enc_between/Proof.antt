@@ -30,7 +30,17 @@ either-requires c κs = search needs
 
 returns : tie.Need-returns
 unfolding encBetween
-returns c = simp (c .either .ensures, c .before .negate .ensures, c .before .before .has-enc .ensures, c .before .before .before .both .ensures, c .before .before .before .before .before .before .before .wide .ensures .0, c .before .before .before .before .before .before .wide2 .ensures .0, c .before .before .before .before .wide3 .ensures .0)
+returns c =
+    let b = c .before .before .before in
+    simp (
+      c .either .ensures,
+      c .before .negate .ensures,
+      c .before .before .has-enc .ensures,
+      b .both .ensures,
+      b .before .before .before .before .wide .ensures .0,
+      b .before .before .before .wide2 .ensures .0,
+      b .before .wide3 .ensures .0,
+    )
 
 pub enc-between-spec : {M : Type 1} → statement M
 enc-between-spec =

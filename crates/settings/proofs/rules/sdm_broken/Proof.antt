@@ -71,7 +71,10 @@ returns c =
     let s = g .before .before .args .s .now in
     let n = length s in
     let f₉ : Finds (d .before .before .before .before .before .before .before .before .positions .result) (positionRules (record { head = h; places = placesIn s h })) =
-    record { is = d .before .before .before .before .before .before .before .before .positions .ensures ∙ ap (λ p. found (positionRules (record { head = h; places = p }))) (g .places .ensures) } in
+    record {
+      is = d .before .before .before .before .before .before .before .before .positions .ensures
+          ∙ ap (λ p. found (positionRules (record { head = h; places = p }))) (g .places .ensures);
+    } in
     let f₈ = whole Whole (ap (λ k. eqb n k) (d .before .before .before .before .before .before .before .size-of .ensures)) f₉ (d .before .before .before .before .before .before .there .ensures) in
     let f₇ = checked EncNeeds (d .before .before .before .before .before .enc-needs .ensures) f₈ (d .before .before .before .before .right .ensures) in
     let f₆ = checked MetaOff (d .before .before .before .meta-off .ensures) f₇ (d .before .before .right2 .ensures) in

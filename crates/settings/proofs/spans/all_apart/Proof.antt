@@ -7,6 +7,7 @@ use borrow.Author.Needs.{needs}
 use lib.ListN.{length, drop, getD, drop-of-length-le}
 use borrow.Author.Tests.{not-true, not-false}
 use Rattle.settings.proofs.Found.{on, off}
+use Rattle.settings.specs.declared.Span.{Span}
 use Rattle.settings.specs.Spans.{apartFrom, allApart}
 use Rattle.settings.proofs.Pairs.{from-step, all-step}
 use Rattle.settings.proofs.spans.all_apart.Statement.{statement}
@@ -55,7 +56,18 @@ loop-less : tie.Need-loop-less Inv-loop μ-loop Inv-pairs μ-pairs
 loop-less c = omega arith
 
 loop-again : tie.Need-loop-again Inv-loop μ-loop Inv-pairs μ-pairs
-loop-again c = let s = c .before .before .before .before .before .before .before .before .args .t1 in let i = c .before .before .before .before .before .before .before .pairs .i in let j = c .before .before .before .before .loop .j in let l : length s ≡ 5 = search needs in let a = getD s i (record { present = false; start = 0; size = 0 }) in (omega arith, not-false _ (c .if1 .left), sym (from-step a (record { present = false; start = 0; size = 0 }) s j (omega arith) ∙ rw (on (c .before .are-apart .ensures) (c .if1 .left)) refl) ∙ c .before .before .before .before .loop .inv .2)
+loop-again c =
+    let b = c .before .before .before .before in
+    let d = b .before .before .before in
+    let s = d .before .args .t1 in
+    let j = b .loop .j in
+    let l : length s ≡ 5 = search needs in
+    let z : Span = record { present = false; start = 0; size = 0 } in
+    let a = getD s (d .pairs .i) z in (
+      omega arith,
+      not-false _ (c .if1 .left),
+      sym (from-step a z s j (omega arith) ∙ rw (on (c .before .are-apart .ensures) (c .if1 .left)) refl) ∙ b .loop .inv .2,
+    )
 
 add-i : tie.Need-add-i Inv-loop μ-loop Inv-pairs μ-pairs
 add-i c = omega arith
@@ -65,14 +77,41 @@ pairs-less c = omega arith
 
 pairs-again : tie.Need-pairs-again Inv-loop μ-loop Inv-pairs μ-pairs
 unfolding apartFrom
-pairs-again c = let s = c .before .before .before .before .before .args .t1 in let i = c .before .before .before .before .pairs .i in let l : length s ≡ 5 = search needs in let e : apartFrom (getD s i (record { present = false; start = 0; size = 0 })) (drop (c .before .loop .j) s) ≡ true = rw (drop-of-length-le s {i = c .before .loop .j} (omega arith)) refl in (omega arith, c .before .loop .inv .1, sym (all-step (record { present = false; start = 0; size = 0 }) s i (omega arith) ∙ rw (sym (c .before .loop .inv .2) ∙ e) refl) ∙ c .before .before .before .before .pairs .inv .2)
+pairs-again c =
+    let d = c .before .before .before .before in
+    let s = d .before .args .t1 in
+    let i = d .pairs .i in
+    let l : length s ≡ 5 = search needs in
+    let z : Span = record { present = false; start = 0; size = 0 } in
+    let j = c .before .loop .j in
+    let e : apartFrom (getD s i z) (drop j s) ≡ true = rw (drop-of-length-le s {i = j} (omega arith)) refl in (
+      omega arith,
+      c .before .loop .inv .1,
+      sym (all-step z s i (omega arith) ∙ rw (sym (c .before .loop .inv .2) ∙ e) refl) ∙ d .pairs .inv .2,
+    )
 
 returns : tie.Need-returns Inv-loop μ-loop Inv-pairs μ-pairs
 unfolding allApart
-returns c = let s = c .before .before .args .t1 in let l : length s ≡ 5 = search needs in c .before .pairs .inv .1 ∙ sym (ap allApart (drop-of-length-le s {i = c .before .pairs .i} (omega arith))) ∙ c .before .pairs .inv .2
+returns c =
+    let s = c .before .before .args .t1 in
+    let l : length s ≡ 5 = search needs in
+    let p = c .before .pairs in
+    p .inv .1 ∙ sym (ap allApart (drop-of-length-le s {i = p .i} (omega arith))) ∙ p .inv .2
 
 returns-2 : tie.Need-returns-2 Inv-loop μ-loop Inv-pairs μ-pairs
-returns-2 c = let s = c .before .before .before .before .before .before .before .before .args .t1 in let i = c .before .before .before .before .before .before .before .pairs .i in let j = c .before .before .before .before .loop .j in let l : length s ≡ 5 = search needs in let a = getD s i (record { present = false; start = 0; size = 0 }) in let e : apartFrom a (drop j s) ≡ false = from-step a (record { present = false; start = 0; size = 0 }) s j (omega arith) ∙ rw (off (c .before .are-apart .ensures) (c .if1 .taken)) refl in not-true _ (c .if1 .taken) ∙ sym (sym (c .before .before .before .before .before .before .before .pairs .inv .2) ∙ all-step (record { present = false; start = 0; size = 0 }) s i (omega arith) ∙ rw (sym (c .before .before .before .before .loop .inv .2) ∙ e) refl)
+returns-2 c =
+    let b = c .before .before .before .before in
+    let d = b .before .before .before in
+    let s = d .before .args .t1 in
+    let i = d .pairs .i in
+    let j = b .loop .j in
+    let l : length s ≡ 5 = search needs in
+    let z : Span = record { present = false; start = 0; size = 0 } in
+    let a = getD s i z in
+    let e : apartFrom a (drop j s) ≡ false =
+    from-step a z s j (omega arith) ∙ rw (off (c .before .are-apart .ensures) (c .if1 .taken)) refl in
+    not-true _ (c .if1 .taken)
+    ∙ sym (sym (d .pairs .inv .2) ∙ all-step z s i (omega arith) ∙ rw (sym (b .loop .inv .2) ∙ e) refl)
 
 pub all-apart-spec : {M : Type 1} → statement M
 all-apart-spec =

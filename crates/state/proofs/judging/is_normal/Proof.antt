@@ -1,5 +1,5 @@
 use lib.Seq.{length-take-le}
-use Rattle.state.proofs.Strings.{laid-within, laid-normal, told-normal, told-bad, told-long}
+use Rattle.state.proofs.Strings.{laid-within, laid-normal, told-normal, told-file, told-bad, told-long}
 use mathlib.Core.Path.{refl, sym, _∙_}
 use borrow.Author.Needs.{needs}
 use Rattle.state.proofs.judging.is_normal.Statement.{statement}
@@ -35,6 +35,9 @@ enum-told c = search needs
 enum-told-2 : tie.Need-enum-told-2
 enum-told-2 c = search needs
 
+enum-told-3 : tie.Need-enum-told-3
+enum-told-3 c = search needs
+
 returns : tie.Need-returns
 returns c =
     let c6 = c .before .before .before .before .before .before in
@@ -42,10 +45,16 @@ returns c =
     (sym (c6 .normalise .ensures .0) ∙ c .before .before .before .a .given .1) (c6 .normalise .ensures .1))
 
 returns-2 : tie.Need-returns-2
-returns-2 c = told-bad _ _ _ (c .enum-told .given .0 .0) (sym (c .before .before .before .normalise .ensures .0) ∙ c .enum-told .given .1)
+returns-2 c =
+    told-file _ _ _ (c .enum-told .given .0 .0) (sym (c .before .before .before .normalise .ensures .0) ∙ c .enum-told .given .1)
 
 returns-3 : tie.Need-returns-3
-returns-3 c = told-long _ _ _ refl (sym (c .before .before .before .normalise .ensures .0) ∙ c .enum-told2 .given .1)
+returns-3 c =
+    told-bad _ _ _ (c .enum-told2 .given .0 .0) (sym (c .before .before .before .normalise .ensures .0) ∙ c .enum-told2 .given .1)
+
+returns-4 : tie.Need-returns-4
+returns-4 c =
+    told-long _ _ _ refl (sym (c .before .before .before .normalise .ensures .0) ∙ c .enum-told3 .given .1)
 
 pub is-normal-spec : {M : Type 1} → statement M
 is-normal-spec =
@@ -59,6 +68,8 @@ is-normal-spec =
     alike-requires
     enum-told
     enum-told-2
+    enum-told-3
     returns
     returns-2
-    returns-3)
+    returns-3
+    returns-4)

@@ -1,6 +1,6 @@
 -- `tag::wrapped_form::file_status` meets its contract: the tests in the order of the definition.
 use Rattle.base.proofs.Bytes.{tests}
-use Rattle.tag.specs.Wrapped.{fileStatus}
+use Rattle.settings.specs.Filing.{fileStatus}
 use Rattle.tag.proofs.wrapped_form.file_status.Statement.{statement}
 use Rattle.tag.proofs.wrapped_form.file_status.Tie as tie
 

@@ -8,7 +8,7 @@ use Rattle.base.specs.Decide.{pick}
 use Rattle.base.specs.Bytes.{over}
 use Rattle.writing.specs.declared.Written.the-variants.{Laid, NoRoom}
 use Rattle.settings.specs.Fields.{stringOf}
-use Rattle.writing.specs.Answers.{writtenAs, writtenRoom}
+use Rattle.writing.specs.Answers.{recordAs, recordRoom}
 use Rattle.writing.proofs.text.lay_record.Statement.{statement}
 use Rattle.writing.proofs.text.lay_record.Tie as tie
 
@@ -28,7 +28,7 @@ same-length : tie.Need-same-length
 same-length c = search needs
 
 returns : tie.Need-returns
-unfolding writtenAs writtenRoom
+unfolding recordAs recordRoom
 returns c =
     let s = c .before .before .before .before .before .before .before .before .before in
     let d = s .args .room .now in
