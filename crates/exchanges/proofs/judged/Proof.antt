@@ -15,7 +15,7 @@ counted-requires : tie.Need-counted-requires
 counted-requires c κs = search needs
 
 returns : tie.Need-returns
-returns c = c .counted .ensures ∙ ap (λ x. countedOf _ _ x) (c .before .before .fits .ensures)
+returns c = c .counted .ensures ∙ ap (λ x. countedOf _ _ x) (c .before .before .fits2 .ensures)
 
 pub judged-spec : {M : Type 1} → statement M
 judged-spec = tie.close (tie.spec fits-requires report-requires counted-requires returns)
