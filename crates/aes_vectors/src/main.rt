@@ -26,6 +26,17 @@ fn kind_of(line: &[u8]) -> usize {
     7
 }
 
+fn agrees_under(w: &[[u8; 16]; 11], kind: usize, line: &[u8]) -> bool {
+    match kind {
+        2 => run::keys(w, line),
+        3 => run::ecb(w, line),
+        4 => run::cbc(w, line),
+        5 => run::cmac(w, line, true),
+        6 => run::cmac(w, line, false),
+        _ => words::differs(line, b"no such kind"),
+    }
+}
+
 // Whether a vector agrees.
 fn agrees(kind: usize, line: &[u8]) -> bool {
     let mut key = [0u8; 16];
@@ -33,14 +44,7 @@ fn agrees(kind: usize, line: &[u8]) -> bool {
         return words::differs(line, b"no key");
     }
     let w = aes::expand(key);
-    match kind {
-        2 => run::keys(&w, line),
-        3 => run::ecb(&w, line),
-        4 => run::cbc(&w, line),
-        5 => run::cmac(&w, line, true),
-        6 => run::cmac(&w, line, false),
-        _ => words::differs(line, b"no such kind"),
-    }
+    agrees_under(&w, kind, line)
 }
 
 // One more at a place.
