@@ -3,7 +3,9 @@
 
 mod proved;
 
-use peer::bench::{rate, workloads, Workload};
+use std::time::{Duration, Instant};
+
+use peer::bench::{seconds, workloads, Workload};
 use peer::log::Exchange;
 use peer::tag::Tag;
 
@@ -33,6 +35,23 @@ fn agrees(work: &Workload, prepared: &Image) -> bool {
         .all(|step: &Exchange| tag.call(&step.command, &step.random) == step.reply)
 }
 
+/// Calls a second of both, the proved tag first: each side's fastest round. Their rounds take turns for four seconds (proved, peer,
+/// proved, peer ..), so that a change in the machine's speed meets both.
+fn in_turn(work: &Workload, proved: &Image, peer: &Tag) -> (f64, f64) {
+    let (mut ours, mut theirs) = (f64::INFINITY, f64::INFINITY);
+    let start = Instant::now();
+    while start.elapsed() < Duration::from_secs(4) {
+        ours = ours.min(seconds(work, proved, |tag, step| {
+            tag.play(&step.command, &step.random);
+        }));
+        theirs = theirs.min(seconds(work, peer, |tag, step| {
+            tag.exchange(&step.command, &step.random);
+        }));
+    }
+    let calls = work.round.len() as f64;
+    (calls / ours, calls / theirs)
+}
+
 /// Prints one workload's line; false where a tag refuses or a reply differs.
 fn measure(work: &Workload) -> bool {
     let (Some(peer), Some(proved)) = (peer_tag(work), proved_tag(work)) else {
@@ -43,19 +62,14 @@ fn measure(work: &Workload) -> bool {
         println!("{}: the replies differ", work.name);
         return false;
     }
-    let p = rate(work, &peer, |tag, step| {
-        tag.exchange(&step.command, &step.random);
-    });
-    let q = rate(work, &proved, |tag, step| {
-        tag.play(&step.command, &step.random);
-    });
+    let (q, p) = in_turn(work, &proved, &peer);
     println!("{:<28} proved {q:>9.0}/s  peer {p:>9.0}/s  proved takes {:.2} times as long", work.name, p / q);
     true
 }
 
 fn main() {
     println!("proved: libstand.a of `rt staticlib stand` (rattle's own release build), called through include/mainspur.h's functions");
-    println!("peer: rustc, opt-level 3, the same process; the fastest round of 1,000 calls in two seconds; images and replies on the stack");
+    println!("peer: rustc, opt-level 3, the same process; rounds of 1,000 calls, the two in turn for four seconds, the fastest of each; images and replies on the stack");
     let done = match workloads() {
         Some(all) => all.iter().map(measure).filter(|fair| *fair).count() == all.len(),
         None => false,

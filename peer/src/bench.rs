@@ -137,9 +137,23 @@ pub fn workloads() -> Option<[Workload; 3]> {
     Some([mirrored_read()?, full_read()?, change_settings()?])
 }
 
-/// Calls per second in the fastest of the rounds that two seconds hold, each from a copy of the
-/// prepared tag: the one that other programs disturbed least. `call` plays one exchange on the
+/// The seconds of one round, from a copy of the prepared tag. `call` plays one exchange on the
 /// tag under measure.
+pub fn seconds<T: Clone>(
+    work: &Workload,
+    prepared: &T,
+    mut call: impl FnMut(&mut T, &Exchange),
+) -> f64 {
+    let mut tag = prepared.clone();
+    let begun = Instant::now();
+    work.round
+        .iter()
+        .for_each(|exchange| call(&mut tag, exchange));
+    begun.elapsed().as_secs_f64()
+}
+
+/// Calls per second in the fastest of the rounds that two seconds hold: the one that other
+/// programs disturbed least.
 pub fn rate<T: Clone>(
     work: &Workload,
     prepared: &T,
@@ -148,12 +162,7 @@ pub fn rate<T: Clone>(
     let mut fastest = f64::INFINITY;
     let start = Instant::now();
     while start.elapsed() < Duration::from_secs(2) {
-        let mut tag = prepared.clone();
-        let begun = Instant::now();
-        work.round
-            .iter()
-            .for_each(|exchange| call(&mut tag, exchange));
-        fastest = fastest.min(begun.elapsed().as_secs_f64());
+        fastest = fastest.min(seconds(work, prepared, &mut call));
     }
     work.round.len() as f64 / fastest
 }

@@ -1,6 +1,6 @@
 // Runs AES-128 vectors of standard input, one a line, '-' for nothing: KEYS NAME KEY ROUND-KEYS, ECB NAME KEY PLAIN CIPHER,
 // CBC NAME KEY IV PLAIN CIPHER, CMAC NAME KEY MESSAGE TAG, and CMACBAD NAME KEY MESSAGE TAG, whose tag must not match.
-// Prints each that differs, by its name and with ours, and then the totals.
+// Prints each that differs, by its name and with ours, and then the totals. The vectors at the end are wrong on purpose.
 mod run;
 mod words;
 
@@ -26,6 +26,17 @@ fn kind_of(line: &[u8]) -> usize {
     7
 }
 
+fn agrees_under(w: &[[u8; 16]; 11], kind: usize, line: &[u8]) -> bool {
+    match kind {
+        2 => run::keys(w, line),
+        3 => run::ecb(w, line),
+        4 => run::cbc(w, line),
+        5 => run::cmac(w, line, true),
+        6 => run::cmac(w, line, false),
+        _ => words::differs(line, b"no such kind"),
+    }
+}
+
 // Whether a vector agrees.
 fn agrees(kind: usize, line: &[u8]) -> bool {
     let mut key = [0u8; 16];
@@ -33,14 +44,7 @@ fn agrees(kind: usize, line: &[u8]) -> bool {
         return words::differs(line, b"no key");
     }
     let w = key_expansion::expand(key);
-    match kind {
-        2 => run::keys(&w, line),
-        3 => run::ciphers(&w, false, line, 3, 4),
-        4 => run::ciphers(&w, true, line, 4, 5),
-        5 => run::cmac(&w, line, true),
-        6 => run::cmac(&w, line, false),
-        _ => words::differs(line, b"no such kind"),
-    }
+    agrees_under(&w, kind, line)
 }
 
 // One more at a place.
@@ -74,12 +78,16 @@ fn print_count(name: &[u8], n: u64) {
     io::write_all(STDOUT_FILENO, b"\n");
 }
 
-fn print_totals(n: [u64; 8]) {
+fn print_kinds(n: [u64; 8]) {
     print_count(b"KEYS ", n[2]);
     print_count(b"ECB ", n[3]);
     print_count(b"CBC ", n[4]);
     print_count(b"CMAC ", n[5]);
     print_count(b"CMACBAD ", n[6]);
+}
+
+fn print_totals(n: [u64; 8]) {
+    print_kinds(n);
     io::print_decimal(STDOUT_FILENO, n[0]);
     io::write_all(STDOUT_FILENO, b" vectors, ");
     io::print_decimal(STDOUT_FILENO, n[1]);

@@ -61,10 +61,14 @@ fn blocks(w: &[[u8; 16]; 11], back: bool, buf: &mut [u8]) {
     }
 }
 
-// Chained from the line's initial vector.
-fn chain(w: &[[u8; 16]; 11], back: bool, line: &[u8], buf: &mut [u8]) {
-    let mut iv = [0u8; 16];
-    words::field(line, 3, &mut iv);
+// How a buffer goes through the cipher: chained from a vector or every block by itself, and back or not.
+struct Way {
+    chained: bool,
+    back: bool,
+    iv: [u8; 16],
+}
+
+fn chain(w: &[[u8; 16]; 11], back: bool, iv: [u8; 16], buf: &mut [u8]) {
     if back {
         aes::cbc_decrypt(w, iv, buf);
         return;
@@ -72,56 +76,72 @@ fn chain(w: &[[u8; 16]; 11], back: bool, line: &[u8], buf: &mut [u8]) {
     aes::cbc_encrypt(w, iv, buf);
 }
 
-fn through(w: &[[u8; 16]; 11], chained: bool, back: bool, line: &[u8], buf: &mut [u8]) {
-    if chained {
-        chain(w, back, line, buf);
+fn through(w: &[[u8; 16]; 11], way: Way, buf: &mut [u8]) {
+    let iv = way.iv;
+    if way.chained {
+        chain(w, way.back, iv, buf);
         return;
     }
-    blocks(w, back, buf);
+    blocks(w, way.back, buf);
 }
 
 // Whether a buffer comes out as a word of the line.
-fn comes_out(
-    w: &[[u8; 16]; 11],
-    chained: bool,
-    back: bool,
-    line: &[u8],
-    buf: &mut [u8],
-    to: usize,
-) -> bool {
-    through(w, chained, back, line, buf);
+fn comes_out(w: &[[u8; 16]; 11], way: Way, line: &[u8], buf: &mut [u8], to: usize) -> bool {
+    through(w, way, buf);
     same(line, to, buf)
 }
 
 // Whether one word of the line gives another.
-fn gives(
-    w: &[[u8; 16]; 11],
-    chained: bool,
-    back: bool,
-    line: &[u8],
-    from: usize,
-    to: usize,
-) -> bool {
+fn gives(w: &[[u8; 16]; 11], way: Way, line: &[u8], from: usize, to: usize) -> bool {
     let mut room = [0u8; 256];
     let n = words::field(line, from, &mut room);
     if room.len() < n {
         return words::differs(line, b"no digits");
     }
-    comes_out(w, chained, back, line, &mut room[..n], to)
+    comes_out(w, way, line, &mut room[..n], to)
 }
 
-// Both ways.
-pub fn ciphers(
-    w: &[[u8; 16]; 11],
-    chained: bool,
-    line: &[u8],
-    plain: usize,
-    cipher: usize,
-) -> bool {
-    if gives(w, chained, false, line, plain, cipher) {
-        return gives(w, chained, true, line, cipher, plain);
+// Both ways, from the word of the plain text to the one behind it.
+fn ciphers(w: &[[u8; 16]; 11], chained: bool, iv: [u8; 16], line: &[u8], plain: usize) -> bool {
+    let there = Way {
+        chained,
+        back: false,
+        iv,
+    };
+    let back = Way {
+        chained,
+        back: true,
+        iv,
+    };
+    let cipher = plain % 8 + 1;
+    if gives(w, there, line, plain, cipher) {
+        return gives(w, back, line, cipher, plain);
     }
     false
+}
+
+pub fn ecb(w: &[[u8; 16]; 11], line: &[u8]) -> bool {
+    ciphers(w, false, [0u8; 16], line, 3)
+}
+
+pub fn cbc(w: &[[u8; 16]; 11], line: &[u8]) -> bool {
+    let mut iv = [0u8; 16];
+    if words::field(line, 3, &mut iv) != 16 {
+        return words::differs(line, b"no initial vector");
+    }
+    ciphers(w, true, iv, line, 4)
+}
+
+// The tag of a message is not the line's.
+fn tag_is_not(tag: [u8; 16], line: &[u8]) -> bool {
+    let mut theirs = [0u8; 16];
+    if words::field(line, 4, &mut theirs) != 16 {
+        return words::differs(line, b"no tag");
+    }
+    if base::alike(&tag, &theirs) {
+        return words::differs(line, b"the tag matches");
+    }
+    true
 }
 
 // The tag of a message is the line's, or, where it must not be, is not.
@@ -130,12 +150,7 @@ fn tag_agrees(w: &[[u8; 16]; 11], line: &[u8], message: &[u8], good: bool) -> bo
     if good {
         return same(line, 4, &tag);
     }
-    let mut theirs = [0u8; 16];
-    words::field(line, 4, &mut theirs);
-    if base::alike(&tag, &theirs) {
-        return words::differs(line, b"the tag matches");
-    }
-    true
+    tag_is_not(tag, line)
 }
 
 pub fn cmac(w: &[[u8; 16]; 11], line: &[u8], good: bool) -> bool {

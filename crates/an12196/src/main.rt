@@ -1,4 +1,13 @@
-// The worked values of AN12196, computed by `messaging` and compared. Prints each value that differs, and the totals.
+// The worked values that NXP publishes in AN12196, computed by `messaging` and compared; then values that are wrong on purpose, one of
+// each kind, so that a program that compares nothing is found out. Prints each value that differs, and the totals.
+mod file_settings;
+mod key_changes;
+mod mutual;
+mod taps;
+
+ghost use mathlib.Core.Path.{_≡_};
+ghost use Rattle.an12196.specs.Counts.{countedOf};
+ghost use Rattle.base.specs.Bytes.{same};
 use authentication::Proof;
 use libc::STDOUT_FILENO;
 use messaging::Closed;
@@ -7,16 +16,16 @@ use messaging::Opened;
 use messaging::Session;
 use sdm::Tap;
 
-mod values;
-
 // How many values were compared, and how many differ.
 struct Tally {
     values: u64,
     differ: u64,
 }
 
-// Counts a comparison, and names the value where it differs.
-fn count(t: Tally, name: &[u8], right: bool) -> Tally {
+// One more value, right or not.
+fn counted(t: Tally, right: bool) -> Tally
+    ensures { λ r. ⌜ r ≡ countedOf t right ⌝ }
+{
     let values = t.values % 1000000 + 1;
     if right {
         return Tally {
@@ -24,15 +33,29 @@ fn count(t: Tally, name: &[u8], right: bool) -> Tally {
             differ: t.differ,
         };
     }
-    io::write_all(STDOUT_FILENO, name);
-    io::write_all(STDOUT_FILENO, b" differs\n");
-    Tally {
-        values,
-        differ: t.differ % 1000000 + 1,
-    }
+    let differ = t.differ % 1000000 + 1;
+    Tally { values, differ }
 }
 
-fn compare(t: Tally, name: &[u8], ours: &[u8], theirs: &[u8]) -> Tally {
+// Names a value that differs.
+fn report(name: &[u8], right: bool) {
+    if right {
+        return;
+    }
+    io::write_all(STDOUT_FILENO, name);
+    io::write_all(STDOUT_FILENO, b" differs\n");
+}
+
+fn count(t: Tally, name: &[u8], right: bool) -> Tally
+    ensures { λ r. ⌜ r ≡ countedOf t right ⌝ }
+{
+    report(name, right);
+    counted(t, right)
+}
+
+fn compare(t: Tally, name: &[u8], ours: &[u8], theirs: &[u8]) -> Tally
+    ensures { λ r. ⌜ r ≡ countedOf t (same (now (ours .entry)) (now (theirs .entry))) ⌝ }
+{
     count(t, name, base::alike(ours, theirs))
 }
 
@@ -79,33 +102,38 @@ fn compare_block(t: Tally, name: &[u8], ours: [u8; 16], theirs: [u8; 16]) -> Tal
 // Part one of the authentication with key 0, and the check of part two.
 fn first_parts(t: Tally) -> Tally {
     let k = [0u8; 16];
-    let one = authentication::part_one(k, values::RND_B);
-    let got = authentication::check_part_two(k, values::RND_B, &values::PART_TWO);
+    let one = authentication::part_one(k, mutual::RND_B);
+    let got = authentication::check_part_two(k, mutual::RND_B, &mutual::PART_TWO);
     let proof = got.proof;
     let a = got.a;
-    let t1 = compare_block(t, b"E(K0; RndB)", one, values::PART_ONE);
+    let t1 = compare_block(t, b"E(K0; RndB)", one, mutual::PART_ONE);
     let t2 = count(t1, b"check of part two", is_right(proof));
-    compare_block(t2, b"RndA", a, values::RND_A)
+    compare_block(t2, b"RndA", a, mutual::RND_A)
 }
 
 // The reply of part two, and the session keys.
 fn last_part(t: Tally) -> Tally {
     let k = [0u8; 16];
-    let reply = authentication::first_reply(k, values::TI, values::RND_A, [0u8; 6]);
-    let t1 = compare(t, b"reply of part two", &reply, &values::PART_TWO_REPLY);
-    let keys = session_keys::session_keys(k, values::RND_A, values::RND_B);
+    let reply = authentication::first_reply(k, mutual::TI, mutual::RND_A, [0u8; 6]);
+    let t1 = compare(
+        t,
+        b"reply of part two",
+        &reply,
+        &mutual::PART_TWO_REPLY,
+    );
+    let keys = session_keys::session_keys(k, mutual::RND_A, mutual::RND_B);
     let enc = keys.enc;
     let mac = keys.mac;
-    let t2 = compare_block(t1, b"SesAuthENCKey", enc, values::ENC_KEY);
-    compare_block(t2, b"SesAuthMACKey", mac, values::MAC_KEY)
+    let t2 = compare_block(t1, b"SesAuthENCKey", enc, mutual::ENC_KEY);
+    compare_block(t2, b"SesAuthMACKey", mac, mutual::MAC_KEY)
 }
 
 // The session of the ChangeFileSettings command.
 fn session(counter: u16) -> Session {
     Session {
-        enc: values::ENC_KEY,
-        mac: values::MAC_KEY,
-        ti: values::TI,
+        enc: mutual::ENC_KEY,
+        mac: mutual::MAC_KEY,
+        ti: mutual::TI,
         counter,
     }
 }
@@ -113,9 +141,9 @@ fn session(counter: u16) -> Session {
 // The session of the ChangeKey commands.
 fn other_session(counter: u16) -> Session {
     Session {
-        enc: values::OTHER_ENC_KEY,
-        mac: values::OTHER_MAC_KEY,
-        ti: values::OTHER_TI,
+        enc: key_changes::OTHER_ENC_KEY,
+        mac: key_changes::OTHER_MAC_KEY,
+        ti: key_changes::OTHER_TI,
         counter,
     }
 }
@@ -158,47 +186,50 @@ fn reply(t: Tally, name: &[u8], s: Session, theirs: &[u8]) -> Tally {
 
 fn change_file_settings(t: Tally) -> Tally {
     let iv = messaging::command_iv(session(1));
-    let t1 = compare(t, b"IV of the command", &iv, &values::SETTINGS_IV);
+    let t1 = compare(t, b"IV of the command", &iv, &file_settings::SETTINGS_IV);
     let t2 = command(
         t1,
         b"ChangeFileSettings",
         session(1),
         0x5F,
-        &values::SETTINGS_DATA,
-        &values::SETTINGS,
+        &file_settings::SETTINGS_DATA,
+        &file_settings::SETTINGS,
     );
     reply(
         t2,
         b"reply of ChangeFileSettings",
         session(2),
-        &values::SETTINGS_REPLY,
+        &file_settings::SETTINGS_REPLY,
     )
 }
 
-fn change_keys(t: Tally) -> Tally {
-    let crc = crc::crc_of(&values::KEY_TWO);
-    let t1 = compare(t, b"CRC", &crc, &values::KEY_TWO_CRC);
+fn change_key_two(t: Tally) -> Tally {
+    let crc = crc::crc_of(&key_changes::KEY_TWO);
+    let t1 = compare(t, b"CRC", &crc, &key_changes::KEY_TWO_CRC);
     let t2 = command(
         t1,
         b"ChangeKey of key 2",
         other_session(2),
         0xC4,
-        &values::KEY_TWO_DATA,
-        &values::KEY_TWO_PLAIN,
+        &key_changes::KEY_TWO_DATA,
+        &key_changes::KEY_TWO_PLAIN,
     );
-    let t3 = reply(
+    reply(
         t2,
         b"reply of ChangeKey",
         other_session(3),
-        &values::KEY_TWO_REPLY,
-    );
+        &key_changes::KEY_TWO_REPLY,
+    )
+}
+
+fn change_key_zero(t: Tally) -> Tally {
     command(
-        t3,
+        t,
         b"ChangeKey of key 0",
         other_session(3),
         0xC4,
-        &values::KEY_ZERO_DATA,
-        &values::KEY_ZERO_PLAIN,
+        &key_changes::KEY_ZERO_DATA,
+        &key_changes::KEY_ZERO_PLAIN,
     )
 }
 
@@ -209,42 +240,118 @@ fn random_of(padding: &[u8]) -> [u8; 20] {
     r
 }
 
-fn first_tap(t: Tally) -> Tally {
-    let k = [0u8; 16];
-    let tap = Tap {
-        uid: values::UID_ONE,
+fn tap_one() -> Tap {
+    Tap {
+        uid: taps::UID_ONE,
         counter: 61,
         names: true,
         counts: true,
-    };
-    let picc = sdm::picc_data(k, tap, random_of(&values::PADDING_ONE));
-    let keys = sdm::tap_keys(k, tap);
-    let key = keys.mac;
-    let mac = sdm::tap_mac(key, &[0u8; 0]);
-    let t1 = compare(t, b"PICCData of the first tap", &picc, &values::PICC_ONE);
-    let t2 = compare(t1, b"SesSDMFileReadMACKey", &key, &values::MAC_KEY_ONE);
-    compare(t2, b"SDMMAC of the first tap", &mac, &values::MAC_ONE)
+    }
 }
 
-fn second_tap(t: Tally) -> Tally {
-    let k = [0u8; 16];
-    let tap = Tap {
-        uid: values::UID_TWO,
+fn first_picc_data(t: Tally) -> Tally {
+    let picc = sdm::picc_data([0u8; 16], tap_one(), random_of(&taps::PADDING_ONE));
+    compare(t, b"PICCData of the first tap", &picc, &taps::PICC_ONE)
+}
+
+fn first_mac(t: Tally) -> Tally {
+    let keys = sdm::tap_keys([0u8; 16], tap_one());
+    let key = keys.mac;
+    let mac = sdm::tap_mac(key, &[0u8; 0]);
+    let t1 = compare(t, b"SesSDMFileReadMACKey", &key, &taps::MAC_KEY_ONE);
+    compare(t1, b"SDMMAC of the first tap", &mac, &taps::MAC_ONE)
+}
+
+fn tap_two() -> Tap {
+    Tap {
+        uid: taps::UID_TWO,
         counter: 8,
         names: true,
         counts: true,
-    };
-    let picc = sdm::picc_data(k, tap, random_of(&values::PADDING_TWO));
-    let keys = sdm::tap_keys(k, tap);
+    }
+}
+
+fn second_picc_data(t: Tally) -> Tally {
+    let picc = sdm::picc_data([0u8; 16], tap_two(), random_of(&taps::PADDING_TWO));
+    compare(t, b"PICCData of the second tap", &picc, &taps::PICC_TWO)
+}
+
+fn second_file_data(t: Tally) -> Tally {
+    let keys = sdm::tap_keys([0u8; 16], tap_two());
     let enc = keys.enc;
-    let key = keys.mac;
-    let mut text = values::TEXT_TWO;
+    let mut text = taps::TEXT_TWO;
     let whole = sdm::tap_encrypt(enc, 8, &mut text);
-    let mac = sdm::tap_mac(key, &values::INPUT_TWO);
-    let t1 = compare(t, b"PICCData of the second tap", &picc, &values::PICC_TWO);
-    let t2 = count(t1, b"length of SDMENCFileData", whole);
-    let t3 = compare(t2, b"SDMENCFileData", &text, &values::HIDDEN_TWO);
-    compare(t3, b"SDMMAC of the second tap", &mac, &values::MAC_TWO)
+    let t1 = count(t, b"length of SDMENCFileData", whole);
+    compare(t1, b"SDMENCFileData", &text, &taps::HIDDEN_TWO)
+}
+
+fn second_mac(t: Tally) -> Tally {
+    let keys = sdm::tap_keys([0u8; 16], tap_two());
+    let key = keys.mac;
+    let mac = sdm::tap_mac(key, &taps::INPUT_TWO);
+    compare(t, b"SDMMAC of the second tap", &mac, &taps::MAC_TWO)
+}
+
+// Another value, a byte less, and nothing.
+fn wrong_values(t: Tally) -> Tally {
+    let key = mutual::ENC_KEY;
+    let t1 = compare(
+        t,
+        b"wrong on purpose: another key",
+        &key,
+        &mutual::MAC_KEY,
+    );
+    let t2 = compare(t1, b"wrong on purpose: a byte less", b"CMAC", b"CMA");
+    compare(t2, b"wrong on purpose: no bytes", &key, b"")
+}
+
+// Statuses other than the one expected, and a MAC of another reply.
+fn wrong_statuses(t: Tally) -> Tally {
+    let got = authentication::check_part_two(
+        [0u8; 16],
+        mutual::RND_A,
+        &mutual::PART_TWO,
+    );
+    let proof = got.proof;
+    let t1 = count(
+        t,
+        b"wrong on purpose: part two of another RndB",
+        is_right(proof),
+    );
+    reply(
+        t1,
+        b"wrong on purpose: reply at another CmdCtr",
+        session(1),
+        &file_settings::SETTINGS_REPLY,
+    )
+}
+
+// A command whose MAC is of another CmdCtr, one with other plain data, and one cut short, which has no right MAC either.
+fn wrong_commands(t: Tally) -> Tally {
+    let t1 = command(
+        t,
+        b"wrong on purpose: command at another CmdCtr",
+        other_session(3),
+        0xC4,
+        &key_changes::KEY_TWO_DATA,
+        &key_changes::KEY_TWO_PLAIN,
+    );
+    let t2 = command(
+        t1,
+        b"wrong on purpose: other plain data",
+        other_session(2),
+        0xC4,
+        &key_changes::KEY_TWO_DATA,
+        &key_changes::KEY_ZERO_PLAIN,
+    );
+    command(
+        t2,
+        b"wrong on purpose: a command cut short",
+        session(1),
+        0x5F,
+        &file_settings::SETTINGS_REPLY,
+        &file_settings::SETTINGS,
+    )
 }
 
 fn main() {
@@ -252,14 +359,16 @@ fn main() {
         values: 0,
         differ: 0,
     };
-    let t0 = first_parts(none);
-    let t1 = last_part(t0);
+    let t1 = last_part(first_parts(none));
     let t2 = change_file_settings(t1);
-    let t3 = change_keys(t2);
-    let t4 = first_tap(t3);
-    let t5 = second_tap(t4);
-    io::print_decimal(STDOUT_FILENO, t5.values);
+    let t3 = change_key_zero(change_key_two(t2));
+    let t4 = first_mac(first_picc_data(t3));
+    let t5 = second_mac(second_file_data(second_picc_data(t4)));
+    let t6 = wrong_values(t5);
+    let t7 = wrong_statuses(t6);
+    let t8 = wrong_commands(t7);
+    io::print_decimal(STDOUT_FILENO, t8.values);
     io::write_all(STDOUT_FILENO, b" values, ");
-    io::print_decimal(STDOUT_FILENO, t5.differ);
+    io::print_decimal(STDOUT_FILENO, t8.differ);
     io::write_all(STDOUT_FILENO, b" differ\n");
 }

@@ -1,5 +1,7 @@
-// Replies as text.
+// Exchanges and replies as text.
 ghost use mathlib.Core.Path.{_≡_};
+ghost use Prim.Native.Nat.{_≤_};
+ghost use lib.ListN.{length};
 ghost use Rattle.exchanges.specs.Texts.{agree, fitting};
 
 // Whether a character is as a pattern's says; '?' stands for any one.
@@ -28,4 +30,25 @@ pub fn fits(text: &[u8], pattern: &[u8]) -> bool
         }
     }
     true
+}
+
+// Where the word that begins at a place ends.
+pub fn end(line: &[u8], at: usize) -> usize
+    requires { ⌜ at ≤ length (now line) ⌝ }
+    ensures from { λ r. ⌜ at ≤ r ⌝ }
+    ensures within { λ r. ⌜ r ≤ length (now (line .entry)) ⌝ }
+{
+    lines::find(line, at, b' ')
+}
+
+// Where the word behind a word's end begins, or the line's end.
+pub fn behind(line: &[u8], at: usize) -> usize
+    requires { ⌜ at ≤ length (now line) ⌝ }
+    ensures from { λ r. ⌜ at ≤ r ⌝ }
+    ensures within { λ r. ⌜ r ≤ length (now (line .entry)) ⌝ }
+{
+    if at < line.len() {
+        return at + 1;
+    }
+    at
 }

@@ -1,6 +1,10 @@
 // Runs the settings strings of standard input, a line each: FILE STRING NORMAL-FORM, or FILE STRING STATUS. Prints each
-// line whose verdict differs, with ours, and then the totals.
-ghost use Prim.Native.Nat.{_≤_};
+// line whose verdict differs, with ours, or that can't be run, with why, and then the totals.
+ghost use mathlib.Core.Bool.{false};
+ghost use mathlib.Core.Path.{_≡_};
+ghost use Prim.Native.Nat.{_≤_, _<_};
+ghost use lib.ListN.{length};
+ghost use Rattle.settings_vectors.specs.Agreeing.{agreeing};
 use libc::STDOUT_FILENO;
 use lines::Decoded;
 use writing::Normalised;
@@ -31,26 +35,64 @@ fn show_front(room: &[u8], n: usize, out: &mut [u8]) -> usize {
     0
 }
 
-// Whether our answer is the one expected; else ours is printed behind the line's number.
-fn agrees(number: u64, file: u8, s: &[u8], expected: &[u8]) -> bool {
-    let mut out = [0u8; 64];
-    let n = answer(file, s, &mut out);
-    compare(number, &out, n, expected)
+// A line's number, and what it expects.
+fn start(number: u64, expected: &[u8]) {
+    io::write_all(STDOUT_FILENO, b"line ");
+    io::print_decimal(STDOUT_FILENO, number);
+    io::write_all(STDOUT_FILENO, b": expected ");
+    io::write_all(STDOUT_FILENO, expected);
 }
 
-fn compare(number: u64, out: &[u8], n: usize, expected: &[u8]) -> bool {
-    if out.len() < n {
-        return false;
-    }
-    if base::alike(&out[..n], expected) {
-        return true;
-    }
+fn another(number: u64, expected: &[u8], ours: &[u8]) {
+    start(number, expected);
+    io::write_all(STDOUT_FILENO, b", ours ");
+    io::write_all(STDOUT_FILENO, ours);
+    io::write_all(STDOUT_FILENO, b"\n");
+}
+
+fn no_answer(number: u64, expected: &[u8]) {
+    start(number, expected);
+    io::write_all(STDOUT_FILENO, b", no answer of ours\n");
+}
+
+// Names a line that can't be run.
+fn unread(number: u64, what: &[u8]) -> bool
+    ensures { λ r. ⌜ r ≡ false ⌝ }
+{
     io::write_all(STDOUT_FILENO, b"line ");
     io::print_decimal(STDOUT_FILENO, number);
     io::write_all(STDOUT_FILENO, b": ");
-    io::write_all(STDOUT_FILENO, &out[..n]);
+    io::write_all(STDOUT_FILENO, what);
     io::write_all(STDOUT_FILENO, b"\n");
     false
+}
+
+// Whether our answer, n characters at the front of a room, is the one expected; else both are printed.
+fn compared(number: u64, expected: &[u8], room: &[u8], n: usize) -> bool
+    ensures { λ r. ⌜ r ≡ agreeing (now (expected .entry)) (now (room .entry)) n ⌝ }
+{
+    if room.len() < n {
+        no_answer(number, expected);
+        return false;
+    }
+    if base::alike(expected, &room[..n]) {
+        return true;
+    }
+    another(number, expected, &room[..n]);
+    false
+}
+
+fn agrees(number: u64, file: u8, s: &[u8], expected: &[u8]) -> bool {
+    let mut room = [0u8; 64];
+    let n = answer(file, s, &mut room);
+    compared(number, expected, &room, n)
+}
+
+fn run_bytes(number: u64, file: u8, s: &[u8], n: usize, expected: &[u8]) -> bool {
+    if n <= s.len() {
+        return agrees(number, file, &s[..n], expected);
+    }
+    unread(number, b"a string longer than 64 bytes")
 }
 
 // A string is digits, or '-' for the empty one.
@@ -62,29 +104,39 @@ fn run_string(number: u64, file: u8, text: &[u8], expected: &[u8]) -> bool {
     let d = lines::decode(text, &mut s);
     match d {
         Decoded::Bytes(n) => run_bytes(number, file, &s, n, expected),
-        Decoded::NotHex => false,
-        Decoded::RoomTooSmall => false,
+        Decoded::NotHex => unread(number, b"a string that is not capital hexadecimal"),
+        Decoded::RoomTooSmall => unread(number, b"a string longer than 64 bytes"),
     }
 }
 
-fn run_bytes(number: u64, file: u8, s: &[u8], n: usize, expected: &[u8]) -> bool {
-    if n <= s.len() {
-        return agrees(number, file, &s[..n], expected);
+// Where the word or the line that begins at a place ends.
+fn end(text: &[u8], at: usize, b: u8) -> usize
+    requires { ⌜ at ≤ length (now text) ⌝ }
+    ensures from { λ r. ⌜ at ≤ r ⌝ }
+    ensures within { λ r. ⌜ r ≤ length (now (text .entry)) ⌝ }
+{
+    lines::find(text, at, b)
+}
+
+// The first word of a line ends at a, the second begins behind it.
+fn run_words(number: u64, line: &[u8], a: usize) -> bool
+    requires { ⌜ a < length (now line) ⌝ }
+{
+    let from = a + 1;
+    let b = end(line, from, b' ');
+    if b < line.len() {
+        let next = b + 1;
+        return run_string(number, lines::digit(line[0]), &line[from..b], &line[next..]);
     }
-    false
+    unread(number, b"fewer than three words")
 }
 
 fn run_line(number: u64, line: &[u8]) -> bool {
-    let a = lines::find(line, 0, b' ');
+    let a = end(line, 0, b' ');
     if a < line.len() {
-        let from = a + 1;
-        let b = lines::find(line, from, b' ');
-        if b < line.len() {
-            let next = b + 1;
-            return run_string(number, lines::digit(line[0]), &line[from..b], &line[next..]);
-        }
+        return run_words(number, line, a);
     }
-    false
+    unread(number, b"fewer than three words")
 }
 
 // 0 for a comment or an empty line, 1 for a string.
@@ -126,11 +178,11 @@ fn run(text: &[u8]) {
     let mut strings: u64 = 0;
     let mut differ: u64 = 0;
     while at < text.len() {
-        let end = lines::find(text, at, b'\n');
+        let e = end(text, at, b'\n');
         number += 1;
-        strings += counted(&text[at..end]);
-        differ += differs(number, &text[at..end]);
-        at = end + 1;
+        strings += counted(&text[at..e]);
+        differ += differs(number, &text[at..e]);
+        at = e + 1;
     }
     print_totals(strings, differ);
 }

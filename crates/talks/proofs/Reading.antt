@@ -7,7 +7,7 @@ use native.Mathlib.Omega.{arith}
 use lib.Dec.{eqb, leb}
 use lib.ListN.{length, getD, take, drop}
 use lib.Seq.{length-take-le}
-use borrow.Author.Tests.{lt-ltb, le-ltb, leb-true}
+use borrow.Author.Tests.{eq-eqb, ne-eqb, lt-ltb, le-ltb, leb-true}
 use Rattle.base.specs.Decide.{pick, and}
 use Rattle.base.specs.Bytes.{over}
 use Rattle.base.proofs.Bytes.{front, laid-front, laid-length}
@@ -17,10 +17,12 @@ use Rattle.lines.specs.Lines.{before, seek}
 use Rattle.lines.specs.Hex.{isHex, bytesOf, decoded, decodedRoom}
 use Rattle.lines.proofs.Steps.{bytes-half}
 use Rattle.talks.specs.declared.Field.{Field}
-use Rattle.talks.specs.declared.Found.{Found}
-use Rattle.talks.specs.declared.Found.the-variants.{Whole, NotCapitalHex, TooLong, Missing}
-use Rattle.talks.specs.Log.{counted, withoutReturn, lineAt, nextLine, foundIn, bytesIn, foundAt, bytesAt, Reads}
-use Rattle.talks.specs.Verdict.{unread, broken}
+use Rattle.talks.specs.declared.LogLine.{LogLine}
+use Rattle.talks.specs.declared.LogLine.the-variants.{Whole, NotCapitalHex, TooLong, Missing}
+use Rattle.talks.specs.Log.{counted, withoutReturn, lineAt, logLineIn, bytesIn, logLineAt, bytesAt, Reads}
+use Rattle.tag.specs.declared.Outcome.{Outcome}
+use Rattle.tag.specs.Call.{refusalNumber}
+use Rattle.talks.specs.Verdict.{another, differs}
 
 pub counted-none : (s : List ℕ) → length s ≡ 0 → counted s ≡ 0
 unfolding counted
@@ -37,9 +39,9 @@ counted-within s = within (eqb (getD s (length s - 1) 0) 13) (length s)
 
 -- the field of what decoding answers and leaves
 abbrev pub fieldOf : Decoded → List ℕ → Field
-fieldOf (Bytes n) b = record { found = Whole; length = n; bytes = b }
-fieldOf NotHex b = record { found = NotCapitalHex; length = 0; bytes = b }
-fieldOf RoomTooSmall b = record { found = TooLong; length = 0; bytes = b }
+fieldOf (Bytes n) b = record { what = Whole; length = n; bytes = b }
+fieldOf NotHex b = record { what = NotCapitalHex; length = 0; bytes = b }
+fieldOf RoomTooSmall b = record { what = TooLong; length = 0; bytes = b }
 
 reads-by : (s old : List ℕ) → length old ≡ 300 → (h l : Bool) → isHex s ≡ h → leb (length s / 2) 300 ≡ l
     → Reads (pick h (pick l Whole TooLong) NotCapitalHex) (pick (and h l) (bytesOf s) [])
@@ -57,15 +59,15 @@ reads-by s old e true false eh el = record { told = refl; front = refl; fits = o
 reads-by s old e false l eh el = record { told = refl; front = refl; fits = omega arith; room = e }
 
 pub reads : (s old : List ℕ) (d : Decoded) (b : List ℕ) → length old ≡ 300 → d ≡ decoded s old → b ≡ decodedRoom s old
-    → Reads (foundIn s) (bytesIn s) (fieldOf d b)
-unfolding foundIn bytesIn decoded decodedRoom
+    → Reads (logLineIn s) (bytesIn s) (fieldOf d b)
+unfolding logLineIn bytesIn decoded decodedRoom
 reads s old d b e p q =
     let n : ℕ = length s / 2 in
     let answer : d ≡ pick (isHex s) (pick (leb n 300) (Bytes n) RoomTooSmall) NotHex =
     p ∙ ap (λ k. pick (isHex s) (pick (leb n k) (Bytes n) RoomTooSmall) NotHex) e in
     let left : b ≡ pick (and (isHex s) (leb n 300)) (over (bytesOf s) old) old =
     q ∙ ap (λ k. pick (and (isHex s) (leb n k)) (over (bytesOf s) old) old) e in
-    subst (λ f. Reads (foundIn s) (bytesIn s) f) (sym (ap₂ (λ x y. fieldOf x y) answer left)) (reads-by s old e (isHex s) (leb n 300) refl refl)
+    subst (λ f. Reads (logLineIn s) (bytesIn s) f) (sym (ap₂ (λ x y. fieldOf x y) answer left)) (reads-by s old e (isHex s) (leb n 300) refl refl)
 
 -- the line between its start and the newline found, and none behind the last
 line-length : (s : List ℕ) (i e : ℕ) → e ≡ seek s i 10 → e - i ≡ before 10 (drop i s)
@@ -73,28 +75,33 @@ unfolding seek
 line-length s i e q = omega arith
 
 pub reads-line : (s : List ℕ) (i e : ℕ) (f : Field) → i < length s → e ≡ seek s i 10
-    → Reads (foundIn (withoutReturn (take (e - i) (drop i s)))) (bytesIn (withoutReturn (take (e - i) (drop i s)))) f
-    → Reads (foundAt s i) (bytesAt s i) f
-unfolding foundAt bytesAt lineAt
+    → Reads (logLineIn (withoutReturn (take (e - i) (drop i s)))) (bytesIn (withoutReturn (take (e - i) (drop i s)))) f
+    → Reads (logLineAt s i) (bytesAt s i) f
+unfolding logLineAt bytesAt lineAt
 reads-line s i e f l q h = rw (lt-ltb i (length s) l, ← line-length s i e q) h
 
-pub reads-none : (s : List ℕ) (i : ℕ) (f : Field) → length s ≤ i → Reads Missing [] f → Reads (foundAt s i) (bytesAt s i) f
-unfolding foundAt bytesAt
+pub reads-none : (s : List ℕ) (i : ℕ) (f : Field) → length s ≤ i → Reads Missing [] f → Reads (logLineAt s i) (bytesAt s i) f
+unfolding logLineAt bytesAt
 reads-none s i f l h = rw (le-ltb i (length s) l) h
 
 -- what is lent of a field lies inside it
-pub lent : {a : Found} {b : List ℕ} (f : Field) → Reads a b f → f .length ≡ length (take (f .length) (f .bytes))
+pub lent : {a : LogLine} {b : List ℕ} (f : Field) → Reads a b f → f .length ≡ length (take (f .length) (f .bytes))
 lent f h = sym (length-take-le (f .length) (f .bytes) (omega (arith, h .fits, h .room)))
 
--- a line that was read
-pub seen : (x : Bool) (a b : Found) → a ≡ b → x ≡ unread a → x ≡ false → unread b ≡ false
-seen x a b p q r = sym (ap unread p) ∙ sym q ∙ r
+-- an exchange that is not broken
+pub whole : (x b : Bool) → x ≡ b → x ≡ false → b ≡ true → ⊥
+whole x b p q h =
+    let e : b ≡ false = sym p ∙ q in
+    let z : _≡_ {A = ℕ} 0 1 = cc in
+    omega arith
 
-pub unbroken : (s : List ℕ) (i j k : ℕ) → j ≡ nextLine s i → k ≡ nextLine s j
-    → unread (foundAt s i) ≡ false → unread (foundAt s j) ≡ false → unread (foundAt s k) ≡ false → broken s i ≡ true → ⊥
-unfolding broken
-unbroken s i j k f g p q r h =
-    let a : unread (foundAt s (nextLine s i)) ≡ false = ap (λ n. unread (foundAt s n)) (sym f) ∙ q in
-    let b : unread (foundAt s (nextLine s (nextLine s i))) ≡ false = ap (λ n. unread (foundAt s n)) (ap (λ n. nextLine s n) (sym f) ∙ sym g) ∙ r in
-    let e : broken s i ≡ false = rw (p, a, b) refl in
-    let z : _≡_ {A = ℕ} 0 1 = cc in omega arith
+-- a reply is compared, and a refusal differs
+pub judged-reply : (logged room : List ℕ) (o : Outcome) (n r : ℕ) (x : Bool) → r ≡ refusalNumber o → r ≡ 0
+    → x ≡ another logged room n → x ≡ differs logged o room n
+unfolding differs
+judged-reply logged room o n r x p q h = rw (eq-eqb (refusalNumber o) 0 (sym p ∙ q)) h
+
+pub judged-refusal : (logged room : List ℕ) (o : Outcome) (n r : ℕ) (x : Bool) → r ≡ refusalNumber o → (r ≡ 0 → ⊥)
+    → x ≡ true → x ≡ differs logged o room n
+unfolding differs
+judged-refusal logged room o n r x p q h = rw (ne-eqb (refusalNumber o) 0 (λ e. q (p ∙ e))) h

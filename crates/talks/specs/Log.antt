@@ -9,8 +9,8 @@ use Rattle.base.specs.Decide.{pick, and, or}
 use Rattle.base.specs.Bytes.{byteAt}
 use Rattle.lines.specs.Lines.{before, seek}
 use Rattle.lines.specs.Hex.{isHex, bytesOf}
-use Rattle.talks.specs.declared.Found.{Found}
-use Rattle.talks.specs.declared.Found.the-variants.{Whole, NotCapitalHex, TooLong, Missing}
+use Rattle.talks.specs.declared.LogLine.{LogLine}
+use Rattle.talks.specs.declared.LogLine.the-variants.{Whole, NotCapitalHex, TooLong, Missing}
 use Rattle.talks.specs.declared.Field.{Field}
 
 -- neither a newline nor a carriage return
@@ -40,23 +40,30 @@ nextLine s i = min (seek s i 10 + 1) (length s)
 unfoldable pub afterThree : List ℕ → ℕ → ℕ
 afterThree s i = nextLine s (nextLine s (nextLine s i))
 
+-- the house's numbers of what a line is: 0 for one that can be read
+unfoldable pub logLineNumber : LogLine → ℕ
+logLineNumber Whole = 0
+logLineNumber NotCapitalHex = 1
+logLineNumber TooLong = 2
+logLineNumber Missing = 3
+
 -- what a line is, and its bytes
-unfoldable pub foundIn : List ℕ → Found
-foundIn s = pick (isHex s) (pick (leb (length s / 2) 300) Whole TooLong) NotCapitalHex
+unfoldable pub logLineIn : List ℕ → LogLine
+logLineIn s = pick (isHex s) (pick (leb (length s / 2) 300) Whole TooLong) NotCapitalHex
 
 unfoldable pub bytesIn : List ℕ → List ℕ
 bytesIn s = pick (and (isHex s) (leb (length s / 2) 300)) (bytesOf s) []
 
 -- the same at a place of a log: behind the last line it breaks off
-unfoldable pub foundAt : List ℕ → ℕ → Found
-foundAt s i = pick (ltb i (length s)) (foundIn (lineAt s i)) Missing
+unfoldable pub logLineAt : List ℕ → ℕ → LogLine
+logLineAt s i = pick (ltb i (length s)) (logLineIn (lineAt s i)) Missing
 
 unfoldable pub bytesAt : List ℕ → ℕ → List ℕ
 bytesAt s i = pick (ltb i (length s)) (bytesIn (lineAt s i)) []
 
 -- a field holds both
-pub record Reads (found : Found) (bytes : List ℕ) (f : Field) : Type 0 where
-  pub told : f .found ≡ found
+pub record Reads (what : LogLine) (bytes : List ℕ) (f : Field) : Type 0 where
+  pub told : f .what ≡ what
   pub front : take (f .length) (f .bytes) ≡ bytes
   pub fits : f .length ≤ 300
   pub room : length (f .bytes) ≡ 300

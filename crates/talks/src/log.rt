@@ -1,10 +1,10 @@
 // The lines of a log. A line ends at a newline or at the end; a carriage return before that does not count.
 ghost use mathlib.Core.List.{[]};
 ghost use mathlib.Core.Path.{_≡_};
-ghost use Rattle.talks.specs.Log.{solid, trimmed, counted, withoutReturn, nextLine, afterThree, foundIn, bytesIn, foundAt, bytesAt, Reads};
-ghost use Rattle.talks.specs.declared.Found.the-variants.{Missing};
+ghost use Rattle.talks.specs.Log.{solid, trimmed, counted, withoutReturn, nextLine, afterThree, logLineIn, bytesIn, logLineAt, bytesAt, Reads};
+ghost use Rattle.talks.specs.declared.LogLine.the-variants.{Missing};
 use crate::Field;
-use crate::Found;
+use crate::LogLine;
 use lines::Decoded;
 
 // Whether a byte is no part of a line's end.
@@ -69,23 +69,23 @@ fn counted(line: &[u8]) -> usize
 }
 
 fn of_digits(digits: &[u8]) -> Field
-    ensures { λ r. ⌜ Reads (foundIn (now (digits .entry))) (bytesIn (now (digits .entry))) r ⌝ }
+    ensures { λ r. ⌜ Reads (logLineIn (now (digits .entry))) (bytesIn (now (digits .entry))) r ⌝ }
 {
     let mut bytes = [0u8; 300];
     let d = lines::decode(digits, &mut bytes);
     match d {
         Decoded::Bytes(n) => Field {
-            found: Found::Whole,
+            what: LogLine::Whole,
             length: n,
             bytes,
         },
         Decoded::NotHex => Field {
-            found: Found::NotCapitalHex,
+            what: LogLine::NotCapitalHex,
             length: 0,
             bytes,
         },
         Decoded::RoomTooSmall => Field {
-            found: Found::TooLong,
+            what: LogLine::TooLong,
             length: 0,
             bytes,
         },
@@ -93,7 +93,7 @@ fn of_digits(digits: &[u8]) -> Field
 }
 
 fn of_line(line: &[u8]) -> Field
-    ensures { λ r. ⌜ Reads (foundIn (withoutReturn (now (line .entry)))) (bytesIn (withoutReturn (now (line .entry)))) r ⌝ }
+    ensures { λ r. ⌜ Reads (logLineIn (withoutReturn (now (line .entry)))) (bytesIn (withoutReturn (now (line .entry)))) r ⌝ }
 {
     let n = counted(line);
     of_digits(&line[..n])
@@ -104,7 +104,7 @@ fn missing() -> Field
 {
     let bytes = [0u8; 300];
     Field {
-        found: Found::Missing,
+        what: LogLine::Missing,
         length: 0,
         bytes,
     }
@@ -112,7 +112,7 @@ fn missing() -> Field
 
 // The line that begins at a place.
 pub fn read(text: &[u8], at: usize) -> Field
-    ensures { λ r. ⌜ Reads (foundAt (now (text .entry)) at) (bytesAt (now (text .entry)) at) r ⌝ }
+    ensures { λ r. ⌜ Reads (logLineAt (now (text .entry)) at) (bytesAt (now (text .entry)) at) r ⌝ }
 {
     if at < text.len() {
         let end = lines::find(text, at, b'\n');

@@ -13,7 +13,7 @@ use state::Made;
 use state::Tag;
 
 // What a line of digits is.
-pub enum Found {
+pub enum LogLine {
     Whole,
     NotCapitalHex,
     TooLong,
@@ -22,7 +22,7 @@ pub enum Found {
 
 // What a line is, and its bytes at the front of a room; none where it is not whole.
 pub struct Field {
-    pub found: Found,
+    pub what: LogLine,
     pub length: usize,
     pub bytes: [u8; 300],
 }

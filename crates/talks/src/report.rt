@@ -3,7 +3,7 @@ ghost use mathlib.Core.Bool.{true};
 ghost use mathlib.Core.Path.{_≡_};
 ghost use Rattle.talks.specs.Verdict.{unread};
 use crate::Field;
-use crate::Found;
+use crate::LogLine;
 use libc::STDOUT_FILENO;
 
 // The digits of n bytes, at the front of a room.
@@ -64,14 +64,14 @@ fn named(line: u64, what: &[u8]) -> bool
 
 // Whether a line can't be read; then it is named.
 pub fn faulty(line: u64, f: Field) -> bool
-    ensures { λ r. ⌜ r ≡ unread (f .found) ⌝ }
+    ensures { λ r. ⌜ r ≡ unread (f .what) ⌝ }
 {
-    let found = f.found;
-    match found {
-        Found::Whole => false,
-        Found::NotCapitalHex => named(line, b"not capital hexadecimal"),
-        Found::TooLong => named(line, b"longer than 300 bytes"),
-        Found::Missing => named(line, b"the log breaks off"),
+    let what = f.what;
+    match what {
+        LogLine::Whole => false,
+        LogLine::NotCapitalHex => named(line, b"not capital hexadecimal"),
+        LogLine::TooLong => named(line, b"longer than 300 bytes"),
+        LogLine::Missing => named(line, b"the log breaks off"),
     }
 }
 

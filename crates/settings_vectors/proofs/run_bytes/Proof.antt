@@ -14,8 +14,16 @@ agrees-requires c κs = search needs
 returns : tie.Need-returns
 returns c = search needs
 
+slice-aggregate-unread : tie.Need-slice-aggregate-unread
+slice-aggregate-unread c = search needs
+
+unread-requires : tie.Need-unread-requires
+unread-requires c κs = search needs
+
 returns-2 : tie.Need-returns-2
 returns-2 c = search needs
 
 pub run-bytes-spec : {M : Type 1} → statement M
-run-bytes-spec = tie.close (tie.spec slice-aggregate-agrees agrees-requires returns returns-2)
+run-bytes-spec =
+    tie.close
+    (tie.spec slice-aggregate-agrees agrees-requires returns slice-aggregate-unread unread-requires returns-2)

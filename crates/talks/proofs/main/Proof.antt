@@ -12,10 +12,10 @@ read-full-requires : tie.Need-read-full-requires
 read-full-requires c κs = search needs
 
 too-long-requires : tie.Need-too-long-requires
-too-long-requires c κs = search needs
+too-long-requires c κs = tt
 
 returns : tie.Need-returns
-returns c = search needs
+returns c = tt
 
 array-share-prefix-text : tie.Need-array-share-prefix-text
 array-share-prefix-text c = search needs
@@ -27,7 +27,7 @@ begin-requires : tie.Need-begin-requires
 begin-requires c κs = subst (λ n. n ≤ 524288) (c .before .before .before .read-full .ensures .1) (c .before .if1 .left)
 
 returns-2 : tie.Need-returns-2
-returns-2 c = search needs
+returns-2 c = tt
 
 pub main-spec : {M : Type 1} → statement M
 main-spec =

@@ -48,7 +48,11 @@ loop-less : tie.Need-loop-less Inv-loop μ-loop
 loop-less c = search needs
 
 loop-again : tie.Need-loop-again Inv-loop μ-loop
-loop-again c = let e = laid-length (c .before .before .before .before .before .block .result) (c .before .before .before .before .before .before .before .before .before .loop .at) (c .before .before .before .before .before .before .before .before .before .loop .buf) in let f = ap length (c .before .before .put .ensures) in (omega (arith, c .before .before .before .before .before .before .before .before .before .loop .inv .0), f ∙ e ∙ c .before .before .before .before .before .before .before .before .before .loop .inv .1)
+loop-again c =
+    let i = c .before .before .before .before .before .before .before .before .before .loop in
+    let e = laid-length (c .before .before .before .before .before .block .result) (i .at) (i .buf) in
+    let f = ap length (c .before .before .put .ensures) in
+    (omega (arith, i .inv .0), f ∙ e ∙ i .inv .1)
 
 same-length : tie.Need-same-length Inv-loop μ-loop
 same-length c = c .before .loop .inv .1

@@ -9,7 +9,11 @@ find-requires : tie.Need-find-requires
 find-requires c κs = search needs
 
 returns : tie.Need-returns
-returns c = let e = seek-from (c .before .before .args .text .now) (c .before .before .args .at) (c .before .before .args .b) in let f = seek-within (c .before .before .args .text .now) (c .before .before .args .at) (c .before .before .args .b) (c .before .before .pre) in (omega (arith, c .find .ensures), omega (arith, c .find .ensures))
+returns c =
+    let a = c .before .before .args in
+    let e = seek-from (a .text .now) (a .at) (a .b) in
+    let f = seek-within (a .text .now) (a .at) (a .b) (c .before .before .pre) in
+    (omega (arith, c .find .ensures), omega (arith, c .find .ensures))
 
 pub end-spec : {M : Type 1} → statement M
 end-spec = tie.close (tie.spec find-requires returns)

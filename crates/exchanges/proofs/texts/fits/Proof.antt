@@ -37,14 +37,29 @@ loop-less : tie.Need-loop-less Inv-loop μ-loop
 loop-less c = omega arith
 
 loop-again : tie.Need-loop-again Inv-loop μ-loop
-loop-again c = let a = c .before .before .before .before .before .before .before .before .before .args in (omega arith, c .before .before .before .before .before .loop .inv .1, sym (fitting-step (a .text .now) (a .pattern .now) (c .before .before .before .before .before .loop .i) (omega arith) (omega arith) ∙ rw (sym (c .before .agrees .ensures) ∙ c .if2 .taken)) ∙ c .before .before .before .before .before .loop .inv .2)
+loop-again c =
+    let b = c .before .before .before .before .before in
+    let a = b .before .before .before .before .args in
+    let i = b .loop in
+    let s = fitting-step (a .text .now) (a .pattern .now) (i .i) (omega arith) (omega arith) in
+    (omega arith, i .inv .1, sym (s ∙ rw (sym (c .before .agrees .ensures) ∙ c .if2 .taken)) ∙ i .inv .2)
 
 returns-2 : tie.Need-returns-2 Inv-loop μ-loop
-returns-2 c = let a = c .before .before .before .before .before .before .before .before .before .args in sym (sym (c .before .before .before .before .before .loop .inv .2) ∙ fitting-step (a .text .now) (a .pattern .now) (c .before .before .before .before .before .loop .i) (omega arith) (omega arith) ∙ rw (sym (c .before .agrees .ensures) ∙ c .if2 .left))
+returns-2 c =
+    let b = c .before .before .before .before .before in
+    let a = b .before .before .before .before .args in
+    let i = b .loop in
+    let s = fitting-step (a .text .now) (a .pattern .now) (i .i) (omega arith) (omega arith) in
+    sym (sym (i .inv .2) ∙ s ∙ rw (sym (c .before .agrees .ensures) ∙ c .if2 .left))
 
 returns-3 : tie.Need-returns-3 Inv-loop μ-loop
 unfolding fitting
-returns-3 c = let a = c .before .before .before .before .before .args in sym (sym (c .before .loop .inv .2) ∙ rw (drop-of-length-le (a .text .now) {i = c .before .loop .i} (omega arith), drop-of-length-le (a .pattern .now) {i = c .before .loop .i} (omega arith)))
+returns-3 c =
+    let a = c .before .before .before .before .before .args in
+    let i = c .before .loop in
+    let t = drop-of-length-le (a .text .now) {i = i .i} (omega arith) in
+    let p = drop-of-length-le (a .pattern .now) {i = i .i} (omega arith) in
+    sym (sym (i .inv .2) ∙ rw (t, p))
 
 pub fits-spec : {M : Type 1} → statement M
 fits-spec =

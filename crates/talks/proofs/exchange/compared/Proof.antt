@@ -14,7 +14,9 @@ no-reply-requires c κs = search needs
 
 returns : tie.Need-returns
 unfolding another
-returns c = let a = c .before .before .before .before .args in rw (lt-leb (a .n) (length (a .room .now)) (c .before .if1 .taken)) refl
+returns c =
+    let a = c .before .before .before .before .args in
+    rw (lt-leb (a .n) (length (a .room .now)) (c .before .if1 .taken)) refl
 
 slice-aggregate-alike : tie.Need-slice-aggregate-alike
 slice-aggregate-alike c = let a = c .before .before .before .before .args in sym (length-take-le (a .n) (a .room .now) (omega arith))
@@ -24,7 +26,9 @@ alike-requires c κs = search needs
 
 returns-2 : tie.Need-returns-2
 unfolding another
-returns-2 c = let a = c .before .before .before .before .before .before .args in rw (le-leb (a .n) (length (a .room .now)) (c .before .before .before .if1 .left), ← c .before .alike .ensures, c .if2 .taken) refl
+returns-2 c =
+    let a = c .before .before .before .before .before .before .args in
+    rw (le-leb (a .n) (length (a .room .now)) (c .before .before .before .if1 .left), ← c .before .alike .ensures, c .if2 .taken) refl
 
 slice-aggregate-another : tie.Need-slice-aggregate-another
 slice-aggregate-another c = let a = c .before .before .before .before .before .before .before .args in sym (length-take-le (a .n) (a .room .now) (omega arith))
@@ -34,7 +38,9 @@ another-requires c κs = search needs
 
 returns-3 : tie.Need-returns-3
 unfolding another
-returns-3 c = let a = c .before .before .before .before .before .before .before .before .args in rw (le-leb (a .n) (length (a .room .now)) (c .before .before .before .before .before .if1 .left), ← c .before .before .before .alike .ensures, c .before .before .if2 .left) refl
+returns-3 c =
+    let a = c .before .before .before .before .before .before .before .before .args in
+    rw (le-leb (a .n) (length (a .room .now)) (c .before .before .before .before .before .if1 .left), ← c .before .before .before .alike .ensures, c .before .before .if2 .left) refl
 
 pub compared-spec : {M : Type 1} → statement M
 compared-spec =

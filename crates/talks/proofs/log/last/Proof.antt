@@ -28,7 +28,11 @@ solid-requires : tie.Need-solid-requires Inv-loop μ-loop
 solid-requires c κs = tt
 
 returns : tie.Need-returns Inv-loop μ-loop
-returns c = sym (last-solid (c .before .before .before .before .before .before .args .text .now) (c .before .before .before .before .loop .n) (c .before .before .before .loop-test .taken) (c .before .before .before .before .loop .inv .0) (sym (c .before .solid .ensures) ∙ c .if1 .taken)) ∙ c .before .before .before .before .loop .inv .1
+returns c =
+    let b = c .before .before .before in
+    let s = b .before .before .before .args .text .now in
+    let i = b .before .loop in
+    sym (last-solid s (i .n) (b .loop-test .taken) (i .inv .0) (sym (c .before .solid .ensures) ∙ c .if1 .taken)) ∙ i .inv .1
 
 sub-n : tie.Need-sub-n Inv-loop μ-loop
 sub-n c = omega arith
@@ -37,7 +41,11 @@ loop-less : tie.Need-loop-less Inv-loop μ-loop
 loop-less c = omega arith
 
 loop-again : tie.Need-loop-again Inv-loop μ-loop
-loop-again c = (omega arith, sym (last-blank (c .before .before .before .before .before .before .args .text .now) (c .before .before .before .before .loop .n) (c .before .before .before .loop-test .taken) (c .before .before .before .before .loop .inv .0) (sym (c .before .solid .ensures) ∙ c .if1 .left)) ∙ c .before .before .before .before .loop .inv .1)
+loop-again c =
+    let b = c .before .before .before in
+    let s = b .before .before .before .args .text .now in
+    let i = b .before .loop in
+    (omega arith, sym (last-blank s (i .n) (b .loop-test .taken) (i .inv .0) (sym (c .before .solid .ensures) ∙ c .if1 .left)) ∙ i .inv .1)
 
 returns-2 : tie.Need-returns-2 Inv-loop μ-loop
 returns-2 c = sym (last-none (c .before .before .before .args .text .now) (c .before .loop .n) (c .loop-test .left)) ∙ c .before .loop .inv .1

@@ -21,7 +21,10 @@ of-line-requires : tie.Need-of-line-requires
 of-line-requires c κs = search needs
 
 returns : tie.Need-returns
-returns c = let a = c .before .before .before .before .before .args in reads-line (a .text .now) (a .at) (c .before .before .find .result) (c .of-line .result) (c .before .before .before .if1 .taken) (c .before .before .find .ensures) (c .of-line .ensures)
+returns c =
+    let a = c .before .before .before .before .before .args in
+    let e = c .before .before .find in
+    reads-line (a .text .now) (a .at) (e .result) (c .of-line .result) (c .before .before .before .if1 .taken) (e .ensures) (c .of-line .ensures)
 
 missing-requires : tie.Need-missing-requires
 missing-requires c κs = search needs

@@ -1,6 +1,7 @@
 -- `talks::report::faulty` meets its contract: each thing that a line can be.
 use mathlib.Core.Path.{sym, ap, _∙_}
 use Rattle.talks.specs.Verdict.{unread}
+use Rattle.talks.specs.Log.{logLineNumber}
 use borrow.Author.Needs.{needs}
 use Rattle.talks.proofs.report.faulty.Statement.{statement}
 use Rattle.talks.proofs.report.faulty.Tie as tie
@@ -36,19 +37,19 @@ named-requires-3 : tie.Need-named-requires-3
 named-requires-3 c κs = search needs
 
 returns : tie.Need-returns
-unfolding unread
+unfolding unread logLineNumber
 returns c = sym (ap unread (c .enum-told .given .1))
 
 returns-2 : tie.Need-returns-2
-unfolding unread
+unfolding unread logLineNumber
 returns-2 c = c .named .ensures ∙ sym (ap unread (c .before .before .enum-told2 .given .1))
 
 returns-3 : tie.Need-returns-3
-unfolding unread
+unfolding unread logLineNumber
 returns-3 c = c .named2 .ensures ∙ sym (ap unread (c .before .before .enum-told3 .given .1))
 
 returns-4 : tie.Need-returns-4
-unfolding unread
+unfolding unread logLineNumber
 returns-4 c = c .named3 .ensures ∙ sym (ap unread (c .before .before .enum-told4 .given .1))
 
 pub faulty-spec : {M : Type 1} → statement M

@@ -1,10 +1,10 @@
--- `exchanges::expect` meets its contract: the command is within its room.
+-- `exchanges::played` meets its contract: the command is within its room.
 use mathlib.Core.Path.{_≡_}
 use native.Mathlib.Omega.{arith}
 use lib.ListN.{length, length-take}
 use borrow.Author.Needs.{needs}
-use Rattle.exchanges.proofs.expect.Statement.{statement}
-use Rattle.exchanges.proofs.expect.Tie as tie
+use Rattle.exchanges.proofs.played.Statement.{statement}
+use Rattle.exchanges.proofs.played.Tie as tie
 
 slice-aggregate-decode : tie.Need-slice-aggregate-decode
 slice-aggregate-decode c = search needs
@@ -69,8 +69,8 @@ returns-3 c = search needs
 returns-4 : tie.Need-returns-4
 returns-4 c = search needs
 
-pub expect-spec : {M : Type 1} → statement M
-expect-spec =
+pub played-spec : {M : Type 1} → statement M
+played-spec =
     tie.close
     (tie.spec
     slice-aggregate-decode

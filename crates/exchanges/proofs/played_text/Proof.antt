@@ -1,10 +1,10 @@
--- `exchanges::expect_text` meets its contract: text and status are within their room.
+-- `exchanges::played_text` meets its contract: text and status are within their room.
 use mathlib.Core.Path.{_≡_}
 use native.Mathlib.Omega.{arith}
 use lib.ListN.{length, length-take}
 use borrow.Author.Needs.{needs}
-use Rattle.exchanges.proofs.expect_text.Statement.{statement}
-use Rattle.exchanges.proofs.expect_text.Tie as tie
+use Rattle.exchanges.proofs.played_text.Statement.{statement}
+use Rattle.exchanges.proofs.played_text.Tie as tie
 
 mul-n : tie.Need-mul-n
 mul-n c = search needs
@@ -30,11 +30,13 @@ put-requires c κs = search needs
 array-share-prefix-digits : tie.Need-array-share-prefix-digits
 array-share-prefix-digits c = search needs
 
-slice-aggregate-expect : tie.Need-slice-aggregate-expect
-slice-aggregate-expect c = let l : length (c .before .before .put .last .1 .0) ≡ 516 = search needs in simp length-take (omega (arith, c .before .before .before .before .before .before .before .before .if1 .taken))
+slice-aggregate-played : tie.Need-slice-aggregate-played
+slice-aggregate-played c =
+    let l : length (c .before .before .put .last .1 .0) ≡ 516 = search needs in
+    simp length-take (omega (arith, c .before .before .before .before .before .before .before .before .if1 .taken))
 
-expect-requires : tie.Need-expect-requires
-expect-requires c κs = search needs
+played-requires : tie.Need-played-requires
+played-requires c κs = search needs
 
 returns : tie.Need-returns
 returns c = search needs
@@ -48,8 +50,8 @@ judged-requires c κs = search needs
 returns-2 : tie.Need-returns-2
 returns-2 c = search needs
 
-pub expect-text-spec : {M : Type 1} → statement M
-expect-text-spec =
+pub played-text-spec : {M : Type 1} → statement M
+played-text-spec =
     tie.close
     (tie.spec
     mul-n
@@ -60,8 +62,8 @@ expect-text-spec =
     slice-aggregate-put-2
     put-requires
     array-share-prefix-digits
-    slice-aggregate-expect
-    expect-requires
+    slice-aggregate-played
+    played-requires
     returns
     slice-aggregate-judged
     judged-requires

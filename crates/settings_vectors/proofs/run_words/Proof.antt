@@ -1,19 +1,13 @@
--- `settings_vectors::run_line` meets its contract.
+-- `settings_vectors::run_words` is safe: the words lie inside the line.
 use borrow.Author.Needs.{needs}
-use Prim.Native.Nat.{_+_}
-use native.Mathlib.Omega.{arith}
-use Rattle.lines.proofs.Steps.{seek-from}
-use Rattle.settings_vectors.proofs.run_line.Statement.{statement}
-use Rattle.settings_vectors.proofs.run_line.Tie as tie
-
-find-requires : tie.Need-find-requires
-find-requires c κs = search needs
+use Rattle.settings_vectors.proofs.run_words.Statement.{statement}
+use Rattle.settings_vectors.proofs.run_words.Tie as tie
 
 add-from : tie.Need-add-from
 add-from c = search needs
 
-find-requires-2 : tie.Need-find-requires-2
-find-requires-2 c κs = search needs
+end-requires : tie.Need-end-requires
+end-requires c κs = search needs
 
 add-next : tie.Need-add-next
 add-next c = search needs
@@ -25,10 +19,10 @@ digit-requires : tie.Need-digit-requires
 digit-requires c κs = search needs
 
 sub-run-string : tie.Need-sub-run-string
-sub-run-string c = let e = seek-from (c .before .before .before .before .before .before .before .args .line .now) (c .before .before .before .before .before .find .result + 1) 32 in omega (arith, c .before .before .before .find2 .ensures)
+sub-run-string c = search needs
 
 part-run-string-start : tie.Need-part-run-string-start
-part-run-string-start c = let e = seek-from (c .before .before .before .before .before .before .before .args .line .now) (c .before .before .before .before .before .find .result + 1) 32 in omega (arith, c .before .before .before .find2 .ensures)
+part-run-string-start c = search needs
 
 part-run-string-end : tie.Need-part-run-string-end
 part-run-string-end c = search needs
@@ -48,19 +42,21 @@ run-string-requires c κs = search needs
 returns : tie.Need-returns
 returns c = search needs
 
+slice-aggregate-unread : tie.Need-slice-aggregate-unread
+slice-aggregate-unread c = search needs
+
+unread-requires : tie.Need-unread-requires
+unread-requires c κs = search needs
+
 returns-2 : tie.Need-returns-2
 returns-2 c = search needs
 
-returns-3 : tie.Need-returns-3
-returns-3 c = search needs
-
-pub run-line-spec : {M : Type 1} → statement M
-run-line-spec =
+pub run-words-spec : {M : Type 1} → statement M
+run-words-spec =
     tie.close
     (tie.spec
-    find-requires
     add-from
-    find-requires-2
+    end-requires
     add-next
     shared-slice-read-digit
     digit-requires
@@ -72,5 +68,6 @@ run-line-spec =
     part-run-string-end-2
     run-string-requires
     returns
-    returns-2
-    returns-3)
+    slice-aggregate-unread
+    unread-requires
+    returns-2)

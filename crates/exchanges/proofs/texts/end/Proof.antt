@@ -1,0 +1,19 @@
+-- `exchanges::texts::end` meets its contract: `find` stays inside the line.
+use Rattle.lines.proofs.Steps.{seek-from, seek-within}
+use borrow.Author.Needs.{needs}
+use native.Mathlib.Omega.{arith}
+use Rattle.exchanges.proofs.texts.end.Statement.{statement}
+use Rattle.exchanges.proofs.texts.end.Tie as tie
+
+find-requires : tie.Need-find-requires
+find-requires c κs = search needs
+
+returns : tie.Need-returns
+returns c =
+    let a = c .before .before .args in
+    let e = seek-from (a .line .now) (a .at) 32 in
+    let f = seek-within (a .line .now) (a .at) 32 (c .before .before .pre) in
+    (omega (arith, c .find .ensures), omega (arith, c .find .ensures))
+
+pub end-spec : {M : Type 1} → statement M
+end-spec = tie.close (tie.spec find-requires returns)
