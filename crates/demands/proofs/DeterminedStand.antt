@@ -1,4 +1,4 @@
--- Each public function of image, of the C border and of plans: its promise, as the source states it, determines the result, the image
+-- Each public function of image, of the C border, of plans and of verdict: its promise, as the source states it, determines the result, the image
 -- and the rooms.
 use mathlib.Core.Bool.{Bool}
 use mathlib.Core.List.{List}
@@ -11,8 +11,11 @@ use Rattle.image.specs.declared.Stored.{Stored}
 use Rattle.image.specs.Image.{imageLength}
 use Rattle.image.specs.Answers.{readIn, storedIn, imageIn}
 use Rattle.stand.specs.Answers.{Makes, Plays, verdictWord, normalNumber}
-use Rattle.plans.specs.declared.Meaning.{Meaning}
-use Rattle.plans.specs.Plan.{said, goodBytes, bytesRoom, meaningOf, commandRoom, randomRoom}
+use Rattle.plans.specs.declared.Head.{Head}
+use Rattle.plans.specs.declared.Line.{Line}
+use Rattle.plans.specs.Heads.{Heads}
+use Rattle.plans.specs.Plan.{said, goodBytes, bytesRoom, lineOf, lineCommand, lineRandom, lineExpected}
+use Rattle.verdict.specs.Replies.{statusIn, refusing, differing}
 use Rattle.demands.specs.Determining.{Determined, DeterminedIn}
 use Rattle.demands.proofs.Determined.{once, twice}
 
@@ -44,13 +47,34 @@ pub settings-normalise-determined : (file : ℕ) (text room : List ℕ)
 settings-normalise-determined file text room = twice
 
 -- ---- plans
-pub line-meaning-determined : (line command random : List ℕ) (r q : Meaning) (command₁ command₂ random₁ random₂ : List ℕ)
-    → (r ≡ meaningOf (said line) command random) × ((command₁ ≡ commandRoom (said line) command) × (random₁ ≡ randomRoom (said line) random))
-    → (q ≡ meaningOf (said line) command random) × ((command₂ ≡ commandRoom (said line) command) × (random₂ ≡ randomRoom (said line) random))
-    → (r ≡ q) × ((command₁ ≡ command₂) × (random₁ ≡ random₂))
-line-meaning-determined line command random r q command₁ command₂ random₁ random₂ p h =
-    (once r q (p .0) (h .0), twice command₁ command₂ random₁ random₂ (p .1) (h .1))
+pub line-meaning-determined : (line command random expected : List ℕ) (r q : Line)
+    (command₁ command₂ random₁ random₂ expected₁ expected₂ : List ℕ)
+    → (r ≡ lineOf (said line) command random expected)
+    × ((command₁ ≡ lineCommand (said line) command)
+    × ((random₁ ≡ lineRandom (said line) random) × (expected₁ ≡ lineExpected (said line) expected)))
+    → (q ≡ lineOf (said line) command random expected)
+    × ((command₂ ≡ lineCommand (said line) command)
+    × ((random₂ ≡ lineRandom (said line) random) × (expected₂ ≡ lineExpected (said line) expected)))
+    → (r ≡ q) × ((command₁ ≡ command₂) × ((random₁ ≡ random₂) × (expected₁ ≡ expected₂)))
+line-meaning-determined line command random expected r q command₁ command₂ random₁ random₂ expected₁ expected₂ p h =
+    (
+      once r q (p .0) (h .0),
+      (once command₁ command₂ (p .1 .0) (h .1 .0), twice random₁ random₂ expected₁ expected₂ (p .1 .1) (h .1 .1)),
+    )
 
 pub line-uid-determined : (line room : List ℕ)
     → DeterminedIn (λ (r : Bool) (new : List ℕ). (r ≡ goodBytes 7 (said line)) × (new ≡ bytesRoom (said line) room))
 line-uid-determined line room = twice
+
+pub first-line-determined : (text : List ℕ) → Determined (λ (r : Head). Heads text r)
+first-line-determined text r q p h = once r q (p .told) (h .told)
+
+-- ---- verdict
+pub status-of-determined : (reply : List ℕ) → Determined (λ (r : ℕ). r ≡ statusIn reply)
+status-of-determined reply = once
+
+pub refuses-determined : (status : ℕ) → Determined (λ (r : Bool). r ≡ refusing status)
+refuses-determined status = once
+
+pub differs-determined : (expected reply : List ℕ) → Determined (λ (r : Bool). r ≡ differing expected reply)
+differs-determined expected reply = once
