@@ -22,7 +22,10 @@ mark-requires : tie.Need-mark-requires Inv-loop μ-loop
 mark-requires c κs = search needs
 
 loop-holds : tie.Need-loop-holds Inv-loop μ-loop
-loop-holds c = (omega arith, omega arith, ap (λ k. headFrom k (c .before .before .args .text .now) (c .mark .result) 1) (omega arith))
+loop-holds c =
+    let x = c .before .before .args .text .now in
+    let e : length x + 1 - 1 ≡ length x = omega arith in
+    (omega arith, omega arith, ap (λ k. headFrom k x (c .mark .result) 1) e)
 
 find-requires : tie.Need-find-requires Inv-loop μ-loop
 find-requires c κs = search needs

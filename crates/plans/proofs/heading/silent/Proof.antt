@@ -3,6 +3,7 @@ use Rattle.plans.proofs.Begins.{silent-step}
 use Rattle.plans.specs.Heads.{silentIn}
 use lib.ListN.{length, drop, drop-of-length-le}
 use Prim.Native.Nat.{_-_, _≤_}
+use borrow.Author.Needs.{needs}
 use borrow.Author.Tests.{lt-ltb, le-ltb, eq-eqb, ne-eqb, le-leb, lt-leb}
 use native.Mathlib.Omega.{arith}
 use mathlib.Core.Path.{_≡_, refl, sym, ap, ap₂, _∙_}
@@ -28,7 +29,7 @@ shared-slice-read-is-blank : tie.Need-shared-slice-read-is-blank Inv-loop μ-loo
 shared-slice-read-is-blank c = omega arith
 
 is-blank-requires : tie.Need-is-blank-requires Inv-loop μ-loop
-is-blank-requires c κs = omega arith
+is-blank-requires c κs = search needs
 
 add-i : tie.Need-add-i Inv-loop μ-loop
 add-i c = omega arith
