@@ -55,7 +55,8 @@ fn begin(path: &[u8], uid: &[u8; 7]) -> Begun {
     }
     keep::fail(path, b"nothing was rehearsed");
     let b = anew(uid);
-    Begun { start: Start::Unread, tag: b.tag }
+    let tag = b.tag;
+    Begun { start: Start::Unread, tag }
 }
 
 // Says why nothing is rehearsed.
@@ -87,11 +88,14 @@ fn go_on(path: &[u8], b: Begun, text: &[u8], from: usize, number: u64) -> Ran
     let t = b.tag;
     if is_ready(s) {
         let w = walk::steps(t, text, from, number);
-        summary::print(w.tag);
-        return Ran { ready: true, tag: w.tag, tally: w.tally };
+        let tag = w.tag;
+        let tally = w.tally;
+        summary::print(tag);
+        return Ran { ready: true, tag, tally };
     }
     complain(path, number, s);
-    Ran { ready: false, tag: t, tally: walk::none() }
+    let tally = walk::none();
+    Ran { ready: false, tag: t, tally }
 }
 
 // Rehearses a plan: the first line that is not blank is the UID.
@@ -113,20 +117,30 @@ fn play(path: &[u8]) -> Ran {
     if n == 262144 {
         show::too_long();
         let b = anew(&[0; 7]);
-        return Ran { ready: false, tag: b.tag, tally: walk::none() };
+        let tag = b.tag;
+        let tally = walk::none();
+        return Ran { ready: false, tag, tally };
     }
     run(path, &text[..n])
+}
+
+// The same, and no tag is kept.
+fn play_plain() -> Tally {
+    let r = play(b"");
+    r.tally
 }
 
 // The same with FILE.new held: then it holds the tag, and the file does.
 fn play_held(fd: i32, path: &[u8], name: &[u8]) -> Tally {
     let r = play(path);
+    let tag = r.tag;
+    let tally = r.tally;
     if r.ready {
-        keep::store(fd, path, name, r.tag);
+        keep::store(fd, path, name, tag);
     } else {
         keep::release(fd, name);
     }
-    r.tally
+    tally
 }
 
 // The same with a file whose name is whole: FILE.new is held from here to the end.
@@ -181,7 +195,7 @@ fn names_image() -> bool {
 // What the arguments ask for.
 fn started(a: Asked) -> Tally {
     match a {
-        Asked::Plain => play(b"").tally,
+        Asked::Plain => play_plain(),
         Asked::Image => play_kept(),
         Asked::NoFile => {
             io::write_all(libc::STDERR_FILENO, b"rehearse: --image needs a FILE\n");

@@ -80,12 +80,12 @@ fn characters(data: &[u8]) {
 }
 
 // How many bytes there are before the zeros at the end: a file that is read whole ends in them.
-fn before_zeros(data: &[u8]) -> usize
-    ensures { λ r. ⌜ Counts r (now (data .entry)) ⌝ }
+fn before_zeros(s: &[u8]) -> usize
+    ensures { λ r. ⌜ Counts r (now (s .entry)) ⌝ }
 {
-    let mut n = data.len();
+    let mut n = s.len();
     while 0 < n {
-        if data[n - 1] != 0 {
+        if s[n - 1] != 0 {
             return n;
         }
         n -= 1;
