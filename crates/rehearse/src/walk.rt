@@ -202,12 +202,13 @@ pub fn steps(tag: Tag, text: &[u8], from: usize, number: u64) -> Rehearsal
     let mut line = number;
     while at < text.len() {
         let end = lines::find(text, at, b'\n');
+        let next = end + 1;
         line += 1;
         let w = step(t, line, &text[at..end]);
         let k = counted(n, line, w.went);
         t = w.tag;
         n = k;
-        at = end + 1;
+        at = next;
     }
     Rehearsal { tag: t, tally: n }
 }

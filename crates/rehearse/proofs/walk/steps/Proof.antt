@@ -40,6 +40,13 @@ loop-holds c =
 find-requires : tie.Need-find-requires Inv-loop μ-loop
 find-requires c κs = search needs
 
+add-next : tie.Need-add-next Inv-loop μ-loop
+add-next c = 
+    let x = c .before .before .before .before .before .args .text .now in
+    let e = seek-from x (c .before .before .loop .at) 10 in
+    let f = seek-within x (c .before .before .loop .at) 10 (omega (arith, c .before .loop-test .taken)) in
+    omega (arith, c .find .ensures)
+
 add-line : tie.Need-add-line Inv-loop μ-loop
 add-line c = 
     let x = c .before .before .before .before .before .args .text .now in
@@ -75,13 +82,6 @@ counted-requires : tie.Need-counted-requires Inv-loop μ-loop
 counted-requires c κs = 
     let k = c .before .before .before .before .loop .line - c .before .before .before .before .before .before .before .args .number + 1 in
     below-more k 18446744073709551615 (c .before .before .before .before .loop .n) (omega (arith, c .before .before .before .before .loop .inv .1, c .before .before .before .loop-test .taken)) (c .before .before .before .before .loop .inv .3)
-
-add-at : tie.Need-add-at Inv-loop μ-loop
-add-at c = 
-    let x = c .before .before .before .before .before .before .before .before .before .args .text .now in
-    let e = seek-from x (c .before .before .before .before .before .before .loop .at) 10 in
-    let f = seek-within x (c .before .before .before .before .before .before .loop .at) 10 (omega (arith, c .before .before .before .before .before .loop-test .taken)) in
-    omega (arith, c .before .before .before .before .find .ensures)
 
 loop-less : tie.Need-loop-less Inv-loop μ-loop
 loop-less c = 
@@ -120,8 +120,9 @@ returns c =
     let a = c .before .before .before .before .args in
     let x = a .text .now in
     let l = c .before .loop in
-    let r = walked-end (length x - (l .line - a .number)) (l .line) x (l .at) (l .t) (l .n) (c .loop-test .left) in
-    subst (λ (k : Tally). Walked (length x) (a .number) (drop (a .from) x) (a .tag) k _) (c .before .before .none .ensures) (l .inv .4 _ r)
+    let q : Rehearsal = record { tag = l .t; tally = l .n } in
+    let w = walked-end (length x - (l .line - a .number)) (l .line) x (l .at) (l .t) (l .n) (c .loop-test .left) in
+    subst (λ (k : Tally). Walked (length x) (a .number) (drop (a .from) x) (a .tag) k q) (c .before .before .none .ensures) (l .inv .4 q w)
 
 pub steps-spec : {M : Type 1} → statement M
 steps-spec =
@@ -132,13 +133,13 @@ steps-spec =
     none-requires
     loop-holds
     find-requires
+    add-next
     add-line
     sub-step
     part-step-start
     part-step-end
     step-requires
     counted-requires
-    add-at
     loop-less
     loop-again
     returns)
