@@ -56,11 +56,10 @@ pub line-meaning-determined : (line command random expected : List ℕ) (r q : L
     × ((command₂ ≡ lineCommand (said line) command)
     × ((random₂ ≡ lineRandom (said line) random) × (expected₂ ≡ lineExpected (said line) expected)))
     → (r ≡ q) × ((command₁ ≡ command₂) × ((random₁ ≡ random₂) × (expected₁ ≡ expected₂)))
-line-meaning-determined line command random expected r q command₁ command₂ random₁ random₂ expected₁ expected₂ p h =
-    (
-      once r q (p .0) (h .0),
-      (once command₁ command₂ (p .1 .0) (h .1 .0), twice random₁ random₂ expected₁ expected₂ (p .1 .1) (h .1 .1)),
-    )
+line-meaning-determined line command random expected r q command₁ command₂ random₁ random₂ expected₁ expected₂ p h = (
+  once r q (p .0) (h .0),
+  (once command₁ command₂ (p .1 .0) (h .1 .0), twice random₁ random₂ expected₁ expected₂ (p .1 .1) (h .1 .1)),
+)
 
 pub line-uid-determined : (line room : List ℕ)
     → DeterminedIn (λ (r : Bool) (new : List ℕ). (r ≡ goodBytes 7 (said line)) × (new ≡ bytesRoom (said line) room))

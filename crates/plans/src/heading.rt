@@ -49,7 +49,15 @@ pub fn first_line(text: &[u8]) -> Head
             at = end + 1;
             continue;
         }
-        return Head { start: at, end, number };
+        return Head {
+            start: at,
+            end,
+            number,
+        };
     }
-    Head { start: text.len(), end: text.len(), number }
+    Head {
+        start: text.len(),
+        end: text.len(),
+        number,
+    }
 }

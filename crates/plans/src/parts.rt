@@ -164,7 +164,10 @@ fn tidy_meaning(s: &[u8], command: &mut [u8], random: &mut [u8]) -> Meaning
 fn bad(r: Reason) -> Line
     ensures { λ l. ⌜ l ≡ badLine r ⌝ }
 {
-    Line { meaning: Meaning::Bad(r), expected: 0 }
+    Line {
+        meaning: Meaning::Bad(r),
+        expected: 0,
+    }
 }
 
 // A command that expects so many bytes, or whose expectation is bad.
@@ -172,7 +175,10 @@ fn wanted(m: Meaning, d: Digits) -> Line
     ensures { λ l. ⌜ l ≡ wantedBy m d ⌝ }
 {
     match d {
-        Digits::Fine(n) => Line { meaning: m, expected: n },
+        Digits::Fine(n) => Line {
+            meaning: m,
+            expected: n,
+        },
         Digits::Wrong(_) => bad(Reason::BadExpected),
     }
 }
@@ -207,5 +213,8 @@ pub fn tidy_line(s: &[u8], command: &mut [u8], random: &mut [u8], expected: &mut
         return expecting(m, d);
     }
     let m = tidy_meaning(s, command, random);
-    Line { meaning: m, expected: 0 }
+    Line {
+        meaning: m,
+        expected: 0,
+    }
 }

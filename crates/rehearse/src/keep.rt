@@ -188,8 +188,14 @@ pub fn target(path: &[u8], room: &mut [u8]) -> usize
 
 // FILE.new is another run's, or was left behind by one.
 fn taken(name: &[u8]) {
-    refuse(name, b"it is there: another run has the tag, or one was stopped");
-    io::write_all(STDERR_FILENO, b"rehearse: where no run has it: if it has 672 bytes, it is the tag that the stopped run left; copy it over the file without .new. Then remove it\n");
+    refuse(
+        name,
+        b"it is there: another run has the tag, or one was stopped",
+    );
+    io::write_all(
+        STDERR_FILENO,
+        b"rehearse: where no run has it: if it has 672 bytes, it is the tag that the stopped run left; copy it over the file without .new. Then remove it\n",
+    );
 }
 
 // Makes FILE.new, for its owner alone since it will hold keys, and answers a descriptor; -1 where it is there already.
@@ -243,7 +249,10 @@ fn replaced(path: &[u8], name: &[u8], s: &[u8]) {
     if written(fd, s) {
         os::unlink(name);
     } else {
-        fail(path, b"the tag is in the file with .new alone: copy it over the file, and remove it");
+        fail(
+            path,
+            b"the tag is in the file with .new alone: copy it over the file, and remove it",
+        );
     }
     libc::close(fd);
 }

@@ -28,8 +28,14 @@ fn anew(uid: &[u8; 7]) -> Begun {
     let tag = b.tag;
     let m = b.made;
     match m {
-        Made::Fresh => Begun { start: Start::Ready, tag },
-        Made::WrongUid => Begun { start: Start::NoUid, tag },
+        Made::Fresh => Begun {
+            start: Start::Ready,
+            tag,
+        },
+        Made::WrongUid => Begun {
+            start: Start::NoUid,
+            tag,
+        },
     }
 }
 
@@ -56,7 +62,10 @@ fn begin(path: &[u8], uid: &[u8; 7]) -> Begun {
     keep::fail(path, b"nothing was rehearsed");
     let b = anew(uid);
     let tag = b.tag;
-    Begun { start: Start::Unread, tag }
+    Begun {
+        start: Start::Unread,
+        tag,
+    }
 }
 
 // Says why nothing is rehearsed.
@@ -91,11 +100,19 @@ fn go_on(path: &[u8], b: Begun, text: &[u8], from: usize, number: u64) -> Ran
         let tag = w.tag;
         let tally = w.tally;
         summary::print(tag);
-        return Ran { ready: true, tag, tally };
+        return Ran {
+            ready: true,
+            tag,
+            tally,
+        };
     }
     complain(path, number, s);
     let tally = walk::none();
-    Ran { ready: false, tag: t, tally }
+    Ran {
+        ready: false,
+        tag: t,
+        tally,
+    }
 }
 
 // Rehearses a plan: the first line that is not blank is the UID.
@@ -119,7 +136,11 @@ fn play(path: &[u8]) -> Ran {
         let b = anew(&[0; 7]);
         let tag = b.tag;
         let tally = walk::none();
-        return Ran { ready: false, tag, tally };
+        return Ran {
+            ready: false,
+            tag,
+            tally,
+        };
     }
     run(path, &text[..n])
 }

@@ -54,7 +54,14 @@ fn told(tag: Tag, number: u64, command: &[u8], reply: &[u8], expected: &[u8]) ->
     if unmet {
         show::unlike(expected);
     }
-    let went = Went { played: true, refused, skipped: false, undrawn: false, expecting, unmet };
+    let went = Went {
+        played: true,
+        refused,
+        skipped: false,
+        undrawn: false,
+        expecting,
+        unmet,
+    };
     Turn { tag, went }
 }
 
@@ -82,7 +89,14 @@ fn front(tag: Tag, number: u64, n: usize, c: &[u8], x: &[u8], e: &[u8]) -> Turn
 fn still(tag: Tag, skipped: bool, undrawn: bool) -> Turn
     ensures { λ r. ⌜ r ≡ stays tag skipped undrawn ⌝ }
 {
-    let went = Went { played: false, refused: false, skipped, undrawn, expecting: false, unmet: false };
+    let went = Went {
+        played: false,
+        refused: false,
+        skipped,
+        undrawn,
+        expecting: false,
+        unmet: false,
+    };
     Turn { tag, went }
 }
 
@@ -188,7 +202,15 @@ fn counted(n: Tally, number: u64, w: Went) -> Tally
 pub fn none() -> Tally
     ensures { λ r. ⌜ r ≡ noTally ⌝ }
 {
-    Tally { exchanges: 0, refused: 0, skipped: 0, undrawn: 0, expecting: 0, unmet: 0, first: 0 }
+    Tally {
+        exchanges: 0,
+        refused: 0,
+        skipped: 0,
+        undrawn: 0,
+        expecting: 0,
+        unmet: 0,
+        first: 0,
+    }
 }
 
 // The lines from an index on, in their order; the line before them has this number.

@@ -23,10 +23,20 @@ tidy-requires : tie.Need-tidy-requires
 tidy-requires c κs = search needs
 
 array-share-prefix-q : tie.Need-array-share-prefix-q
-array-share-prefix-q c = let l = take (c .before .before .before .before .find .result) (c .before .before .before .before .before .before .before .before .before .args .line .now) in let h : c .before .tidy .result ≤ 1700 = seen-fits l (replicate 1700 0) refl (c .before .tidy .ensures .0) in let k : length (c .before .tidy .last .1 .0) ≡ 1700 = search needs in omega arith
+array-share-prefix-q c =
+    let c9 = c .before .before .before .before .before .before .before .before .before in
+    let l = take (c .before .before .before .before .find .result) (c9 .args .line .now) in
+    let h : c .before .tidy .result ≤ 1700 = seen-fits l (replicate 1700 0) refl (c .before .tidy .ensures .0) in
+    let k : length (c .before .tidy .last .1 .0) ≡ 1700 = search needs in
+    omega arith
 
 slice-aggregate-tidy-line : tie.Need-slice-aggregate-tidy-line
-slice-aggregate-tidy-line c = let l = take (c .before .before .before .before .before .find .result) (c .before .before .before .before .before .before .before .before .before .before .args .line .now) in let h : c .before .before .tidy .result ≤ 1700 = seen-fits l (replicate 1700 0) refl (c .before .before .tidy .ensures .0) in let k : length (c .before .before .tidy .last .1 .0) ≡ 1700 = search needs in simp length-take (omega arith)
+slice-aggregate-tidy-line c =
+    let c10 = c .before .before .before .before .before .before .before .before .before .before in
+    let l = take (c .before .before .before .before .before .find .result) (c10 .args .line .now) in
+    let h : c .before .before .tidy .result ≤ 1700 = seen-fits l (replicate 1700 0) refl (c .before .before .tidy .ensures .0) in
+    let k : length (c .before .before .tidy .last .1 .0) ≡ 1700 = search needs in
+    simp length-take (omega arith)
 
 tidy-line-requires : tie.Need-tidy-line-requires
 tidy-line-requires c κs = search needs
@@ -42,11 +52,17 @@ same-length-3 c = search needs
 
 returns : tie.Need-returns
 unfolding said
-returns c = let a = c .before .before .before .before .before .before .before .before .before .before .before .before .before .before .before .before .before .before .before .before .args in let s = a .line .now in let l = take (c .before .before .before .before .before .before .before .before .before .before .before .before .before .before .before .find .result) s in
+returns c =
+    let c15 = c .before .before .before .before .before .before .before .before .before .before .before .before .before .before .before
+    in
+    let c20 = c15 .before .before .before .before .before in
+    let a = c20 .args in
+    let s = a .line .now in
+    let l = take (c15 .find .result) s in
     let t =
-        seen l (replicate 1700 0) refl (c .before .before .before .before .before .before .before .before .before .before .before .before .tidy .ensures .0) (c .before .before .before .before .before .before .before .before .before .before .before .before .tidy .ensures .1)
-        ∙ ap (λ e. take 1700 (tidied (take e s))) (c .before .before .before .before .before .before .before .before .before .before .before .before .before .before .before .find .ensures) in
-    (
+    seen l (replicate 1700 0) refl (c .before .before .before .before .before .before .before .before .before .before .before .before .tidy .ensures .0)
+    (c .before .before .before .before .before .before .before .before .before .before .before .before .tidy .ensures .1)
+    ∙ ap (λ e. take 1700 (tidied (take e s))) (c .before .before .before .before .before .before .before .before .before .before .before .before .before .before .before .find .ensures) in (
       c .before .before .before .before .before .before .tidy-line .ensures .0
           ∙ ap (λ x. lineOf x (a .command .now) (a .random .now) (a .expected .now)) t
           ∙ cut-line (a .command .now) (a .random .now) (a .expected .now) _,
@@ -54,7 +70,10 @@ returns c = let a = c .before .before .before .before .before .before .before .b
         c .before .before .before .before .before .before .tidy-line .ensures .1 .0 ∙ ap (λ x. lineCommand x (a .command .now)) t ∙ cut-command (a .command .now) _,
         (
           c .before .before .before .before .before .before .tidy-line .ensures .1 .1 .0 ∙ ap (λ x. lineRandom x (a .random .now)) t ∙ cut-random (a .random .now) _,
-          c .before .before .before .before .before .before .tidy-line .ensures .1 .1 .1 ∙ ap (λ x. lineExpected x (a .expected .now)) t ∙ cut-expected (a .expected .now) _)))
+          c .before .before .before .before .before .before .tidy-line .ensures .1 .1 .1 ∙ ap (λ x. lineExpected x (a .expected .now)) t ∙ cut-expected (a .expected .now) _,
+        ),
+      ),
+    )
 
 pub line-meaning-spec : {M : Type 1} → statement M
 line-meaning-spec =

@@ -37,13 +37,17 @@ returns c = search needs
 
 array-share-prefix-name-2 : tie.Need-array-share-prefix-name-2
 array-share-prefix-name-2 c =
-    let h : c .before .before .before .before .beside .result ≤ 4096 = beside-fits (c .before .before .before .before .before .before .before .args .path .now) (replicate 4096 0) refl (c .before .before .before .before .beside .ensures .0) in
+    let h : c .before .before .before .before .beside .result ≤ 4096 =
+    beside-fits (c .before .before .before .before .before .before .before .args .path .now) (replicate 4096 0) refl
+    (c .before .before .before .before .beside .ensures .0) in
     let k : length (c .before .before .before .before .beside .last .1 .0) ≡ 4096 = search needs in
     omega arith
 
 slice-aggregate-play-held : tie.Need-slice-aggregate-play-held
 slice-aggregate-play-held c =
-    let h : c .before .before .before .before .before .beside .result ≤ 4096 = beside-fits (c .before .before .before .before .before .before .before .before .args .path .now) (replicate 4096 0) refl (c .before .before .before .before .before .beside .ensures .0) in
+    let h : c .before .before .before .before .before .beside .result ≤ 4096 =
+    beside-fits (c .before .before .before .before .before .before .before .before .args .path .now) (replicate 4096 0) refl
+    (c .before .before .before .before .before .beside .ensures .0) in
     let k : length (c .before .before .before .before .before .beside .last .1 .0) ≡ 4096 = search needs in
     simp length-take (omega arith)
 

@@ -28,8 +28,7 @@ returns-2 c = rw (le-ltb _ _ (c .before .before .before .if1 .left), sym (c .bef
 returns-3 : tie.Need-returns-3
 unfolding differing
 returns-3 c =
-    rw
-    (
+    rw (
       le-ltb _ _ (c .before .before .before .before .if1 .left),
       sym (c .before .before .alike .ensures) ∙ c .before .if2 .left,
       ne-eqb _ _ (c .if3 .taken),
@@ -57,8 +56,7 @@ returns-4 c =
     let a = c .before .before .before .before .before .before .before .before .before .before .args in
     let r = a .reply .now in
     let w = take-all (length r - (length r - 2)) (drop (length r - 2) r) (omega (arith, length-drop (length r - 2) r)) in
-    rw
-    (
+    rw (
       le-ltb _ _ (c .before .before .before .before .before .before .before .if1 .left),
       sym (c .before .before .before .before .before .alike .ensures) ∙ c .before .before .before .before .if2 .left,
       eq-eqb _ _ (c .before .before .before .if3 .left),
@@ -72,8 +70,7 @@ returns-5 c =
     let a = c .before .before .before .before .before .before .before .before .before .before .args in
     let r = a .reply .now in
     let w = take-all (length r - (length r - 2)) (drop (length r - 2) r) (omega (arith, length-drop (length r - 2) r)) in
-    rw
-    (
+    rw (
       le-ltb _ _ (c .before .before .before .before .before .before .before .if1 .left),
       sym (c .before .before .before .before .before .alike .ensures) ∙ c .before .before .before .before .if2 .left,
       eq-eqb _ _ (c .before .before .before .if3 .left),

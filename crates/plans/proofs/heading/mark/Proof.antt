@@ -19,8 +19,7 @@ returns : tie.Need-returns
 unfolding markIn
 returns c =
     let b = c .before .before in
-    rw
-    (
+    rw (
       sym (b .before .before .before .at .ensures),
       eq-eqb _ _ (b .before .before .if1 .taken),
       sym (b .before .at2 .ensures),
@@ -34,8 +33,7 @@ returns-2 : tie.Need-returns-2
 unfolding markIn
 returns-2 c =
     let b = c .before .before in
-    rw
-    (
+    rw (
       sym (b .before .before .before .at .ensures),
       eq-eqb _ _ (b .before .before .if1 .taken),
       sym (b .before .at2 .ensures),
@@ -48,8 +46,7 @@ returns-2 c =
 returns-3 : tie.Need-returns-3
 unfolding markIn
 returns-3 c =
-    rw
-    (
+    rw (
       sym (c .before .before .before .at .ensures),
       eq-eqb _ _ (c .before .before .if1 .taken),
       sym (c .before .at2 .ensures),

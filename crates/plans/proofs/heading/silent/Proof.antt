@@ -23,7 +23,10 @@ shared-slice-read-if1 : tie.Need-shared-slice-read-if1 Inv-loop μ-loop
 shared-slice-read-if1 c = omega arith
 
 returns : tie.Need-returns Inv-loop μ-loop
-returns c = sym (sym (c .before .before .before .loop .inv .1) ∙ silent-step (c .before .before .before .before .before .args .line .now) (c .before .before .before .loop .i) (c .before .before .loop-test .taken) ∙ rw (eq-eqb _ _ (c .if1 .taken)) refl)
+returns c =
+    sym (sym (c .before .before .before .loop .inv .1)
+    ∙ silent-step (c .before .before .before .before .before .args .line .now) (c .before .before .before .loop .i)
+    (c .before .before .loop-test .taken) ∙ rw (eq-eqb _ _ (c .if1 .taken)) refl)
 
 shared-slice-read-is-blank : tie.Need-shared-slice-read-is-blank Inv-loop μ-loop
 shared-slice-read-is-blank c = omega arith
@@ -38,10 +41,23 @@ loop-less : tie.Need-loop-less Inv-loop μ-loop
 loop-less c = omega arith
 
 loop-again : tie.Need-loop-again Inv-loop μ-loop
-loop-again c = (omega arith, sym (silent-step (c .before .before .before .before .before .before .before .before .args .line .now) (c .before .before .before .before .before .before .loop .i) (c .before .before .before .before .before .loop-test .taken) ∙ rw (ne-eqb _ _ (c .before .before .before .if1 .left), sym (c .before .is-blank .ensures) ∙ c .if2 .taken) refl) ∙ c .before .before .before .before .before .before .loop .inv .1)
+loop-again c =
+    let c6 = c .before .before .before .before .before .before in
+    let c8 = c6 .before .before in (
+      omega arith,
+      sym (silent-step (c8 .args .line .now) (c6 .loop .i)
+          (c .before .before .before .before .before .loop-test .taken)
+          ∙ rw (ne-eqb _ _ (c .before .before .before .if1 .left), sym (c .before .is-blank .ensures) ∙ c .if2 .taken) refl)
+          ∙ c6 .loop .inv .1,
+    )
 
 returns-2 : tie.Need-returns-2 Inv-loop μ-loop
-returns-2 c = sym (sym (c .before .before .before .before .before .before .loop .inv .1) ∙ silent-step (c .before .before .before .before .before .before .before .before .args .line .now) (c .before .before .before .before .before .before .loop .i) (c .before .before .before .before .before .loop-test .taken) ∙ rw (ne-eqb _ _ (c .before .before .before .if1 .left), sym (c .before .is-blank .ensures) ∙ c .if2 .left) refl)
+returns-2 c =
+    let c6 = c .before .before .before .before .before .before in
+    let c8 = c6 .before .before in
+    sym (sym (c6 .loop .inv .1) ∙ silent-step (c8 .args .line .now) (c6 .loop .i)
+    (c .before .before .before .before .before .loop-test .taken)
+    ∙ rw (ne-eqb _ _ (c .before .before .before .if1 .left), sym (c .before .is-blank .ensures) ∙ c .if2 .left) refl)
 
 returns-3 : tie.Need-returns-3 Inv-loop μ-loop
 unfolding silentIn

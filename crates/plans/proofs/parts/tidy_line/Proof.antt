@@ -15,7 +15,13 @@ bad-requires c κs = search needs
 
 returns : tie.Need-returns
 unfolding lineOf lineCommand lineRandom lineExpected
-returns c = (rw (le-leb _ _ (c .before .if1 .taken)) (c .bad .ensures), (rw (le-leb _ _ (c .before .if1 .taken)) refl, (rw (le-leb _ _ (c .before .if1 .taken)) refl, rw (le-leb _ _ (c .before .if1 .taken)) refl)))
+returns c = (
+  rw (le-leb _ _ (c .before .if1 .taken)) (c .bad .ensures),
+  (
+    rw (le-leb _ _ (c .before .if1 .taken)) refl,
+    (rw (le-leb _ _ (c .before .if1 .taken)) refl, rw (le-leb _ _ (c .before .if1 .taken)) refl),
+  ),
+)
 
 find-requires : tie.Need-find-requires
 find-requires c κs = search needs
@@ -55,11 +61,52 @@ same-length-3 c = search needs
 
 returns-2 : tie.Need-returns-2
 unfolding lineOf lineCommand lineRandom lineExpected equals
-returns-2 c = let a = c .before .before .before .before .before .before .before .before .before .before .before .before .before .before .before .before .before .before .before .before .before .args in let w = from-on (c .before .before .before .before .before .before .before .before .before .before .before .before .before .before .before .find .result + 1) (a .s .now) in (
-      rw (lt-leb _ _ (c .before .before .before .before .before .before .before .before .before .before .before .before .before .before .before .before .if1 .left), sym (c .before .before .before .before .before .before .before .before .before .before .before .before .before .before .before .find .ensures), lt-ltb _ _ (c .before .before .before .before .before .before .before .before .before .before .before .before .before .before .if2 .taken))
+returns-2 c =
+    let c15 = c .before .before .before .before .before .before .before .before .before .before .before .before .before .before .before
+    in
+    let c21 = c15 .before .before .before .before .before .before in
+    let a = c21 .args in
+    let w = from-on (c15 .find .result + 1) (a .s .now) in (
+      rw (
+        lt-leb _ _ (c .before .before .before .before .before .before .before .before .before .before .before .before .before .before .before .before .if1 .left),
+        sym
+            (c .before .before .before .before .before .before .before .before .before .before .before .before .before .before .before .find .ensures),
+        lt-ltb _ _
+            (c .before .before .before .before .before .before .before .before .before .before .before .before .before .before .if2
+            .taken),
+      )
           (c .expecting .ensures
-          ∙ ap₂ (λ m d. expectingBy m d) (c .before .before .before .before .before .before .before .before .before .before .tidy-meaning .ensures .0) (c .before .before .before .command-bytes .ensures .0 ∙ ap (λ b. digitsOf b (a .expected .now)) w)),
-      (rw (lt-leb _ _ (c .before .before .before .before .before .before .before .before .before .before .before .before .before .before .before .before .if1 .left), sym (c .before .before .before .before .before .before .before .before .before .before .before .before .before .before .before .find .ensures), lt-ltb _ _ (c .before .before .before .before .before .before .before .before .before .before .before .before .before .before .if2 .taken)) (c .before .before .before .before .before .before .before .before .before .before .tidy-meaning .ensures .1 .0), (rw (lt-leb _ _ (c .before .before .before .before .before .before .before .before .before .before .before .before .before .before .before .before .if1 .left), sym (c .before .before .before .before .before .before .before .before .before .before .before .before .before .before .before .find .ensures), lt-ltb _ _ (c .before .before .before .before .before .before .before .before .before .before .before .before .before .before .if2 .taken)) (c .before .before .before .before .before .before .before .before .before .before .tidy-meaning .ensures .1 .1), rw (lt-leb _ _ (c .before .before .before .before .before .before .before .before .before .before .before .before .before .before .before .before .if1 .left), sym (c .before .before .before .before .before .before .before .before .before .before .before .before .before .before .before .find .ensures), lt-ltb _ _ (c .before .before .before .before .before .before .before .before .before .before .before .before .before .before .if2 .taken)) (c .before .before .before .command-bytes .ensures .1 ∙ ap (λ b. digitsRoom b (a .expected .now)) w))))
+          ∙ ap₂ (λ m d. expectingBy m d) (c .before .before .before .before .before .before .before .before .before .before .tidy-meaning .ensures .0)
+          (c .before .before .before .command-bytes .ensures .0 ∙ ap (λ b. digitsOf b (a .expected .now)) w)),
+      (
+        rw (
+          lt-leb _ _ (c .before .before .before .before .before .before .before .before .before .before .before .before .before .before .before .before .if1 .left),
+          sym
+              (c .before .before .before .before .before .before .before .before .before .before .before .before .before .before .before .find .ensures),
+          lt-ltb _ _
+              (c .before .before .before .before .before .before .before .before .before .before .before .before .before .before .if2 .taken),
+        )
+            (c .before .before .before .before .before .before .before .before .before .before .tidy-meaning .ensures .1 .0),
+        (
+          rw (
+            lt-leb _ _ (c .before .before .before .before .before .before .before .before .before .before .before .before .before .before .before .before .if1 .left),
+            sym
+                (c .before .before .before .before .before .before .before .before .before .before .before .before .before .before .before .find .ensures),
+            lt-ltb _ _
+                (c .before .before .before .before .before .before .before .before .before .before .before .before .before .before .if2 .taken),
+          )
+              (c .before .before .before .before .before .before .before .before .before .before .tidy-meaning .ensures .1 .1),
+          rw (
+            lt-leb _ _ (c .before .before .before .before .before .before .before .before .before .before .before .before .before .before .before .before .if1 .left),
+            sym
+                (c .before .before .before .before .before .before .before .before .before .before .before .before .before .before .before .find .ensures),
+            lt-ltb _ _
+                (c .before .before .before .before .before .before .before .before .before .before .before .before .before .before .if2 .taken),
+          ) (c .before .before .before .command-bytes .ensures .1 ∙ ap
+              (λ b. digitsRoom b (a .expected .now)) w),
+        ),
+      ),
+    )
 
 tidy-meaning-requires-2 : tie.Need-tidy-meaning-requires-2
 tidy-meaning-requires-2 c κs = search needs
@@ -72,7 +119,21 @@ same-length-5 c = search needs
 
 returns-3 : tie.Need-returns-3
 unfolding lineOf lineCommand lineRandom lineExpected equals
-returns-3 c = (rw (lt-leb _ _ (c .before .before .before .before .before .before .before .before .before .if1 .left), sym (c .before .before .before .before .before .before .before .before .find .ensures), le-ltb _ _ (c .before .before .before .before .before .before .before .if2 .left)) (ap (λ m. plainLine m) (c .before .before .before .before .tidy-meaning2 .ensures .0)), (rw (lt-leb _ _ (c .before .before .before .before .before .before .before .before .before .if1 .left), sym (c .before .before .before .before .before .before .before .before .find .ensures), le-ltb _ _ (c .before .before .before .before .before .before .before .if2 .left)) (c .before .before .before .before .tidy-meaning2 .ensures .1 .0), (rw (lt-leb _ _ (c .before .before .before .before .before .before .before .before .before .if1 .left), sym (c .before .before .before .before .before .before .before .before .find .ensures), le-ltb _ _ (c .before .before .before .before .before .before .before .if2 .left)) (c .before .before .before .before .tidy-meaning2 .ensures .1 .1), rw (lt-leb _ _ (c .before .before .before .before .before .before .before .before .before .if1 .left), sym (c .before .before .before .before .before .before .before .before .find .ensures), le-ltb _ _ (c .before .before .before .before .before .before .before .if2 .left)) refl)))
+returns-3 c =
+    let c4 = c .before .before .before .before in
+    let c7 = c4 .before .before .before in
+    let c8 = c7 .before in
+    let c9 = c8 .before in (
+      rw (lt-leb _ _ (c9 .if1 .left), sym (c8 .find .ensures), le-ltb _ _ (c7 .if2 .left))
+          (ap (λ m. plainLine m) (c4 .tidy-meaning2 .ensures .0)),
+      (
+        rw (lt-leb _ _ (c9 .if1 .left), sym (c8 .find .ensures), le-ltb _ _ (c7 .if2 .left)) (c4 .tidy-meaning2 .ensures .1 .0),
+        (
+          rw (lt-leb _ _ (c9 .if1 .left), sym (c8 .find .ensures), le-ltb _ _ (c7 .if2 .left)) (c4 .tidy-meaning2 .ensures .1 .1),
+          rw (lt-leb _ _ (c9 .if1 .left), sym (c8 .find .ensures), le-ltb _ _ (c7 .if2 .left)) refl,
+        ),
+      ),
+    )
 
 pub tidy-line-spec : {M : Type 1} → statement M
 tidy-line-spec =

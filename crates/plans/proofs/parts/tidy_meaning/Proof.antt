@@ -43,11 +43,35 @@ same-length-2 c = search needs
 
 returns-2 : tie.Need-returns-2
 unfolding meaningOf commandRoom randomRoom slash
-returns-2 c = let a = c .before .before .before .before .before .before .before .before .before .before .before .before .before .before .before .args in let w = from-on (c .before .before .before .before .before .before .before .before .before .before .find .result + 1) (a .s .now) in (
-      rw (ne-eqb _ _ (c .before .before .before .before .before .before .before .before .before .before .before .if1 .left), sym (c .before .before .before .before .before .before .before .before .before .before .find .ensures), lt-ltb _ _ (c .before .before .before .before .before .before .before .before .before .if2 .taken))
+returns-2 c =
+    let c10 = c .before .before .before .before .before .before .before .before .before .before in
+    let c15 = c10 .before .before .before .before .before in
+    let a = c15 .args in
+    let w = from-on (c10 .find .result + 1) (a .s .now) in (
+      rw (
+        ne-eqb _ _ (c .before .before .before .before .before .before .before .before .before .before .before .if1 .left),
+        sym (c .before .before .before .before .before .before .before .before .before .before .find .ensures),
+        lt-ltb _ _ (c .before .before .before .before .before .before .before .before .before .if2 .taken),
+      )
           (c .before .before .before .before .with-random .ensures .0
-          ∙ ap (λ b. givenBy (goodBytes (length (a .random .now)) b) (digitsOf (take (c .before .before .before .before .before .before .before .before .before .before .find .result) (a .s .now)) (a .command .now))) w),
-      (rw (ne-eqb _ _ (c .before .before .before .before .before .before .before .before .before .before .before .if1 .left), sym (c .before .before .before .before .before .before .before .before .before .before .find .ensures), lt-ltb _ _ (c .before .before .before .before .before .before .before .before .before .if2 .taken)) (c .before .before .before .before .with-random .ensures .1 .0), rw (ne-eqb _ _ (c .before .before .before .before .before .before .before .before .before .before .before .if1 .left), sym (c .before .before .before .before .before .before .before .before .before .before .find .ensures), lt-ltb _ _ (c .before .before .before .before .before .before .before .before .before .if2 .taken)) (c .before .before .before .before .with-random .ensures .1 .1 ∙ ap (λ b. bytesRoom b (a .random .now)) w)))
+          ∙ ap (λ b. givenBy (goodBytes (length (a .random .now)) b)
+          (digitsOf (take (c .before .before .before .before .before .before .before .before .before .before .find .result)
+          (a .s .now)) (a .command .now))) w),
+      (
+        rw (
+          ne-eqb _ _ (c .before .before .before .before .before .before .before .before .before .before .before .if1 .left),
+          sym (c .before .before .before .before .before .before .before .before .before .before .find .ensures),
+          lt-ltb _ _ (c .before .before .before .before .before .before .before .before .before .if2 .taken),
+        )
+            (c .before .before .before .before .with-random .ensures .1 .0),
+        rw (
+          ne-eqb _ _ (c .before .before .before .before .before .before .before .before .before .before .before .if1 .left),
+          sym (c .before .before .before .before .before .before .before .before .before .before .find .ensures),
+          lt-ltb _ _ (c .before .before .before .before .before .before .before .before .before .if2 .taken),
+        )
+            (c .before .before .before .before .with-random .ensures .1 .1 ∙ ap (λ b. bytesRoom b (a .random .now)) w),
+      ),
+    )
 
 without-random-requires : tie.Need-without-random-requires
 without-random-requires c κs = search needs
@@ -57,7 +81,18 @@ same-length-3 c = search needs
 
 returns-3 : tie.Need-returns-3
 unfolding meaningOf commandRoom randomRoom slash
-returns-3 c = (rw (ne-eqb _ _ (c .before .before .before .before .before .before .if1 .left), sym (c .before .before .before .before .before .find .ensures), le-ltb _ _ (c .before .before .before .before .if2 .left)) (c .before .before .without-random .ensures .0), (rw (ne-eqb _ _ (c .before .before .before .before .before .before .if1 .left), sym (c .before .before .before .before .before .find .ensures), le-ltb _ _ (c .before .before .before .before .if2 .left)) (c .before .before .without-random .ensures .1), rw (ne-eqb _ _ (c .before .before .before .before .before .before .if1 .left), sym (c .before .before .before .before .before .find .ensures), le-ltb _ _ (c .before .before .before .before .if2 .left)) refl))
+returns-3 c =
+    let c4 = c .before .before .before .before in
+    let c5 = c4 .before in
+    let c6 = c5 .before in (
+      rw (ne-eqb _ _ (c6 .if1 .left), sym (c5 .find .ensures), le-ltb _ _ (c4 .if2 .left))
+          (c .before .before .without-random .ensures .0),
+      (
+        rw (ne-eqb _ _ (c6 .if1 .left), sym (c5 .find .ensures), le-ltb _ _ (c4 .if2 .left))
+            (c .before .before .without-random .ensures .1),
+        rw (ne-eqb _ _ (c6 .if1 .left), sym (c5 .find .ensures), le-ltb _ _ (c4 .if2 .left)) refl,
+      ),
+    )
 
 pub tidy-meaning-spec : {M : Type 1} → statement M
 tidy-meaning-spec =

@@ -18,10 +18,13 @@ same-length : tie.Need-same-length
 same-length c = search needs
 
 returns-2 : tie.Need-returns-2
-returns-2 c = 
+returns-2 c =
     let a = c .before .before .before .before .before .before .before .args in
-    let k : length (c .before .before .put .last .1 .0) ≡ length (a .room .now) = ap length (c .before .before .put .ensures) ∙ laid-length _ _ _ in
-    (omega (arith, k, c .before .before .before .before .if1 .left), sym (length-take-le (length (a .path .now)) (c .before .before .put .last .1 .0) (omega (arith, k, c .before .before .before .before .if1 .left))))
+    let k : length (c .before .before .put .last .1 .0) ≡ length (a .room .now) = ap length (c .before .before .put .ensures) ∙ laid-length _ _ _ in (
+      omega (arith, k, c .before .before .before .before .if1 .left),
+      sym (length-take-le (length (a .path .now)) (c .before .before .put .last .1 .0)
+          (omega (arith, k, c .before .before .before .before .if1 .left))),
+    )
 
 pub as-named-spec : {M : Type 1} → statement M
 as-named-spec =

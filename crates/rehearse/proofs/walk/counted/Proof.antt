@@ -27,7 +27,11 @@ first-of-requires : tie.Need-first-of-requires
 first-of-requires c κs = search needs
 
 returns : tie.Need-returns
-returns c = counted-is _ _ _ (c .before .before .before .before .before .before .more .ensures) (c .before .before .before .before .before .more2 .ensures) (c .before .before .before .before .more3 .ensures) (c .before .before .before .more4 .ensures) (c .before .before .more5 .ensures) (c .before .more6 .ensures) (c .first-of .ensures)
+returns c =
+    let c6 = c .before .before .before .before .before .before in
+    counted-is _ _ _ (c6 .more .ensures) (c .before .before .before .before .before .more2 .ensures)
+    (c .before .before .before .before .more3 .ensures) (c .before .before .before .more4 .ensures)
+    (c .before .before .more5 .ensures) (c .before .more6 .ensures) (c .first-of .ensures)
 
 pub counted-spec : {M : Type 1} → statement M
 counted-spec =

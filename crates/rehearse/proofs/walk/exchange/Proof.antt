@@ -17,12 +17,12 @@ call-requires : tie.Need-call-requires
 call-requires c κs = search needs
 
 array-share-prefix-room : tie.Need-array-share-prefix-room
-array-share-prefix-room c = 
+array-share-prefix-room c =
     let k : length (c .before .call .last .1 .1 .1 .0) ≡ 258 = search needs in
     omega (arith, c .before .call .ensures .short)
 
 slice-aggregate-told : tie.Need-slice-aggregate-told
-slice-aggregate-told c = 
+slice-aggregate-told c =
     let k : length (c .before .before .call .last .1 .1 .1 .0) ≡ 258 = search needs in
     simp length-take (omega (arith, c .before .before .call .ensures .short))
 
@@ -31,7 +31,7 @@ told-requires c κs = search needs
 
 returns : tie.Need-returns
 unfolding played nextOf replyTo
-returns c = 
+returns c =
     let e = c .before .before .before .before .before .before .before .before .args .expected .now in
     c .told .ensures
     ∙ ap₂ (λ (d : Called) (x : List ℕ). toldBy (d .tag) (take (d .length) x) e) (c .before .before .before .call .ensures .told) (c .before .before .before .call .ensures .left)

@@ -21,7 +21,10 @@ exchange-requires-2 : tie.Need-exchange-requires-2
 exchange-requires-2 c κs = search needs
 
 returns-2 : tie.Need-returns-2
-returns-2 c = let a = c .before .before .before .before .before .args in c .exchange2 .ensures ∙ ap (λ x. played (a .tag) x (a .x .now) (a .e .now)) (sym (take-all (a .n) (a .c .now) (c .before .if1 .left)))
+returns-2 c =
+    let a = c .before .before .before .before .before .args in
+    c .exchange2 .ensures ∙ ap (λ x. played (a .tag) x (a .x .now) (a .e .now))
+    (sym (take-all (a .n) (a .c .now) (c .before .if1 .left)))
 
 pub front-spec : {M : Type 1} → statement M
 front-spec =

@@ -30,12 +30,12 @@ slice-aggregate-carried-2 : tie.Need-slice-aggregate-carried-2
 slice-aggregate-carried-2 c = search needs
 
 array-share-prefix-w : tie.Need-array-share-prefix-w
-array-share-prefix-w c = 
+array-share-prefix-w c =
     let k : length (c .before .before .before .before .before .before .line-meaning .last .1 .1 .1 .0) ≡ 258 = search needs in
     omega (arith, c .before .before .if1 .taken)
 
 slice-aggregate-carried-3 : tie.Need-slice-aggregate-carried-3
-slice-aggregate-carried-3 c = 
+slice-aggregate-carried-3 c =
     let k : length (c .before .before .before .before .before .before .before .line-meaning .last .1 .1 .1 .0) ≡ 258 = search needs in
     simp length-take (omega (arith, c .before .before .before .if1 .taken))
 
@@ -43,7 +43,7 @@ carried-requires : tie.Need-carried-requires
 carried-requires c κs = search needs
 
 returns : tie.Need-returns
-returns c = 
+returns c =
     let l = c .before .before .before .before .before .before .before .before .line-meaning in
     stepped-is _ _ (l .result) _ _ _ _ (l .ensures .0) (l .ensures .1 .0) (l .ensures .1 .1 .0) (l .ensures .1 .1 .1) (c .carried .ensures)
 
@@ -60,13 +60,15 @@ carried-requires-2 : tie.Need-carried-requires-2
 carried-requires-2 c κs = search needs
 
 returns-2 : tie.Need-returns-2
-returns-2 c = 
+returns-2 c =
     let l = c .before .before .before .before .before .before .before .before .line-meaning in
     let w = l .last .1 .1 .1 .0 in
     let k : length w ≡ 258 = search needs in
     let t = take-all (l .result .expected) w (omega (arith, c .before .before .before .before .if1 .left)) in
     stepped-is _ _ (l .result) _ _ _ _ (l .ensures .0) (l .ensures .1 .0) (l .ensures .1 .1 .0) (l .ensures .1 .1 .1)
-    (subst (λ (e : List ℕ). Carried (l .result .meaning) (c .before .before .before .before .before .before .before .before .before .before .before .before .before .args .tag) (l .last .1 .0) (l .last .1 .1 .0) e (c .carried2 .result)) (sym t) (c .carried2 .ensures))
+    (subst (λ (e : List ℕ). Carried (l .result .meaning)
+    (c .before .before .before .before .before .before .before .before .before .before .before .before .before .args .tag)
+    (l .last .1 .0) (l .last .1 .1 .0) e (c .carried2 .result)) (sym t) (c .carried2 .ensures))
 
 pub step-spec : {M : Type 1} → statement M
 step-spec =
