@@ -115,12 +115,7 @@ fn first_parts(t: Tally) -> Tally {
 fn last_part(t: Tally) -> Tally {
     let k = [0u8; 16];
     let reply = authentication::first_reply(k, mutual::TI, mutual::RND_A, [0u8; 6]);
-    let t1 = compare(
-        t,
-        b"reply of part two",
-        &reply,
-        &mutual::PART_TWO_REPLY,
-    );
+    let t1 = compare(t, b"reply of part two", &reply, &mutual::PART_TWO_REPLY);
     let keys = session_keys::session_keys(k, mutual::RND_A, mutual::RND_B);
     let enc = keys.enc;
     let mac = keys.mac;
@@ -295,23 +290,14 @@ fn second_mac(t: Tally) -> Tally {
 // Another value, a byte less, and nothing.
 fn wrong_values(t: Tally) -> Tally {
     let key = mutual::ENC_KEY;
-    let t1 = compare(
-        t,
-        b"wrong on purpose: another key",
-        &key,
-        &mutual::MAC_KEY,
-    );
+    let t1 = compare(t, b"wrong on purpose: another key", &key, &mutual::MAC_KEY);
     let t2 = compare(t1, b"wrong on purpose: a byte less", b"CMAC", b"CMA");
     compare(t2, b"wrong on purpose: no bytes", &key, b"")
 }
 
 // Statuses other than the one expected, and a MAC of another reply.
 fn wrong_statuses(t: Tally) -> Tally {
-    let got = authentication::check_part_two(
-        [0u8; 16],
-        mutual::RND_A,
-        &mutual::PART_TWO,
-    );
+    let got = authentication::check_part_two([0u8; 16], mutual::RND_A, &mutual::PART_TWO);
     let proof = got.proof;
     let t1 = count(
         t,

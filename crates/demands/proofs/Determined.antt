@@ -26,9 +26,9 @@ use Rattle.answer.specs.declared.Done.{Done}
 use Rattle.answer.specs.Answer.{Answer, answerOf, Gives}
 use Rattle.tag.specs.declared.Called.{Called}
 use Rattle.tag.specs.Call.{Calls, Laid, Replies}
-use Rattle.demands.specs.Determining.{Determined, DeterminedIn, DeterminedRooms, SameText, DeterminedText}
+use Rattle.demands.specs.Determining.{Determined, DeterminedIn, DeterminedRooms, DeterminedThree, SameText, DeterminedText}
 
--- ---- the general lemma: for a result, for a result and a room, for a result and two rooms
+-- ---- the general lemma: for a result, for a result, and one, two or three rooms beside it
 pub once : {A : Type 0} {x : A} → Determined (λ (r : A). r ≡ x)
 once r q p h = p ∙ sym h
 
@@ -38,6 +38,11 @@ twice r q new other p h = (once r q (p .0) (h .0), once new other (p .1) (h .1))
 pub thrice : {A : Type 0} {x : A} {y z : List ℕ}
     → DeterminedRooms (λ (r : A) (first second : List ℕ). (r ≡ x) × ((first ≡ y) × (second ≡ z)))
 thrice r q first₁ first₂ second₁ second₂ p h = (once r q (p .0) (h .0), twice first₁ first₂ second₁ second₂ (p .1) (h .1))
+
+pub fourfold : {A : Type 0} {w : A} {x y z : List ℕ}
+    → DeterminedThree (λ (r : A) (first second third : List ℕ). (r ≡ w) × ((first ≡ x) × ((second ≡ y) × (third ≡ z))))
+fourfold r q first₁ first₂ second₁ second₂ third₁ third₂ p h =
+    (once r q (p .0) (h .0), thrice first₁ first₂ second₁ second₂ third₁ third₂ (p .1) (h .1))
 
 -- ---- the records
 pub chains-once : {f : List ℕ → List ℕ} {old : List ℕ} → DeterminedIn (λ (r : Chained) (new : List ℕ). Chains f old r new)

@@ -1,4 +1,4 @@
--- Each public function of image, of the C border and of plans: its promise, as the source states it, determines the result, the image
+-- Each public function of image, of the C border, of plans and of verdict: its promise, as the source states it, determines the result, the image
 -- and the rooms.
 use mathlib.Core.Bool.{Bool}
 use mathlib.Core.List.{List}
@@ -12,10 +12,13 @@ use Rattle.image.specs.declared.Stored.{Stored}
 use Rattle.image.specs.Image.{imageLength}
 use Rattle.image.specs.Answers.{readIn, storedIn, imageIn}
 use Rattle.stand.specs.Answers.{Makes, Plays}
-use Rattle.plans.specs.declared.Meaning.{Meaning}
-use Rattle.plans.specs.Plan.{said, goodBytes, bytesRoom, meaningOf, commandRoom, randomRoom}
-use Rattle.demands.specs.Determining.{Determined, DeterminedIn, DeterminedRooms}
-use Rattle.demands.proofs.Determined.{once, twice, thrice}
+use Rattle.plans.specs.declared.Head.{Head}
+use Rattle.plans.specs.declared.Line.{Line}
+use Rattle.plans.specs.Heads.{Heads}
+use Rattle.plans.specs.Plan.{said, goodBytes, bytesRoom, lineOf, lineCommand, lineRandom, lineExpected}
+use Rattle.verdict.specs.Replies.{statusIn, refusing, differing}
+use Rattle.demands.specs.Determining.{Determined, DeterminedIn, DeterminedRooms, DeterminedThree}
+use Rattle.demands.proofs.Determined.{once, twice, thrice, fourfold}
 
 -- ---- image
 pub from-image-determined : (s : List ℕ) → Determined (λ (r : Read). r ≡ readIn s)
@@ -45,13 +48,27 @@ pub mainspur-settings-normalise-determined : (file : ℕ) (text room : List ℕ)
 mainspur-settings-normalise-determined file text room = twice
 
 -- ---- plans
-pub line-meaning-determined : (line command random : List ℕ)
-    → DeterminedRooms
-    (λ (r : Meaning) (new-command new-random : List ℕ).
-    (r ≡ meaningOf (said line) command random)
-    × ((new-command ≡ commandRoom (said line) command) × (new-random ≡ randomRoom (said line) random)))
-line-meaning-determined line command random = thrice
+pub line-meaning-determined : (line command random expected : List ℕ)
+    → DeterminedThree
+    (λ (r : Line) (new-command new-random new-expected : List ℕ).
+    (r ≡ lineOf (said line) command random expected)
+    × ((new-command ≡ lineCommand (said line) command)
+    × ((new-random ≡ lineRandom (said line) random) × (new-expected ≡ lineExpected (said line) expected))))
+line-meaning-determined line command random expected = fourfold
 
 pub line-uid-determined : (line room : List ℕ)
     → DeterminedIn (λ (r : Bool) (new : List ℕ). (r ≡ goodBytes 7 (said line)) × (new ≡ bytesRoom (said line) room))
 line-uid-determined line room = twice
+
+pub first-line-determined : (text : List ℕ) → Determined (λ (r : Head). Heads text r)
+first-line-determined text r q p h = once r q (p .told) (h .told)
+
+-- ---- verdict
+pub status-of-determined : (reply : List ℕ) → Determined (λ (r : ℕ). r ≡ statusIn reply)
+status-of-determined reply = once
+
+pub refuses-determined : (status : ℕ) → Determined (λ (r : Bool). r ≡ refusing status)
+refuses-determined status = once
+
+pub differs-determined : (expected reply : List ℕ) → Determined (λ (r : Bool). r ≡ differing expected reply)
+differs-determined expected reply = once

@@ -19,6 +19,12 @@ DeterminedRooms {A} P =
     (r q : A) (first₁ first₂ second₁ second₂ : List ℕ) → P r first₁ second₁ → P q first₂ second₂
     → (r ≡ q) × ((first₁ ≡ first₂) × (second₁ ≡ second₂))
 
+-- a promise over a result and what three lent rooms hold then
+abbrev pub DeterminedThree : {A : Type 0} → (A → List ℕ → List ℕ → List ℕ → Type 0) → Type 0
+DeterminedThree {A} P =
+    (r q : A) (first₁ first₂ second₁ second₂ third₁ third₂ : List ℕ) → P r first₁ second₁ third₁ → P q first₂ second₂ third₂
+    → (r ≡ q) × ((first₁ ≡ first₂) × ((second₁ ≡ second₂) × (third₁ ≡ third₂)))
+
 -- what two answers by one promise share: all but the bytes behind the length
 pub record SameText (d e : Done) : Type 0 where
   pub status : d .status ≡ e .status

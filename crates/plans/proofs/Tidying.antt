@@ -14,9 +14,9 @@ use Rattle.base.specs.Decide.{pick, and, or}
 use Rattle.base.specs.Bytes.{over}
 use Rattle.base.proofs.Bytes.{Holds, le-or-lt}
 use Rattle.lines.specs.Hex.{digitOf}
-use Rattle.plans.specs.declared.Meaning.the-variants.{Bad}
 use Rattle.plans.specs.declared.Reason.the-variants.{TooLong}
-use Rattle.plans.specs.Plan.{isBlank, capitalOf, tidied, strayIn, goodBytes, bytesRoom, meaningOf, commandRoom, randomRoom}
+use Rattle.plans.specs.Plan.{isBlank, capitalOf, tidied, strayIn, goodBytes, bytesRoom}
+use Rattle.plans.specs.Plan.{badLine, lineOf, lineCommand, lineRandom, lineExpected}
 
 tidied-append : (a b : List ℕ) → tidied (a ++ b) ≡ tidied a ++ tidied b
 unfolding tidied
@@ -64,57 +64,64 @@ unfolding strayIn
 stray-step s i h = rw (add-one, drop-cons s i 0 h) refl
 
 -- a line that fills the room is too long, whatever was cut off
-cut : {A : Type 0} (f : List ℕ → A) (v : A) → ((s : List ℕ) → 1100 ≤ length s → f s ≡ v) → (s : List ℕ) → f (take 1100 s) ≡ f s
+cut : {A : Type 0} (f : List ℕ → A) (v : A) → ((s : List ℕ) → 1700 ≤ length s → f s ≡ v) → (s : List ℕ) → f (take 1700 s) ≡ f s
 cut f v long s =
     ⊎-elim
-    (λ (h : 1100 ≤ length s). long (take 1100 s) (omega (arith, length-take-le 1100 s h)) ∙ sym (long s h))
-    (λ (h : length s < 1100). ap f (take-all 1100 s (omega arith)))
-    (le-or-lt 1100 (length s))
+    (λ (h : 1700 ≤ length s). long (take 1700 s) (omega (arith, length-take-le 1700 s h)) ∙ sym (long s h))
+    (λ (h : length s < 1700). ap f (take-all 1700 s (omega arith)))
+    (le-or-lt 1700 (length s))
 
-long-meaning : (command random s : List ℕ) → 1100 ≤ length s → meaningOf s command random ≡ Bad TooLong
-unfolding meaningOf
-long-meaning command random s h = rw (ne-eqb (length s) 0 (λ e. omega arith), le-leb 1100 (length s) h) refl
+long-line : (command random expected s : List ℕ) → 1700 ≤ length s → lineOf s command random expected ≡ badLine TooLong
+unfolding lineOf
+long-line command random expected s h = rw (le-leb 1700 (length s) h) refl
 
-long-command : (room s : List ℕ) → 1100 ≤ length s → commandRoom s room ≡ room
-unfolding commandRoom
-long-command room s h = rw (ne-eqb (length s) 0 (λ e. omega arith), le-leb 1100 (length s) h) refl
+long-command : (room s : List ℕ) → 1700 ≤ length s → lineCommand s room ≡ room
+unfolding lineCommand
+long-command room s h = rw (le-leb 1700 (length s) h) refl
 
-long-random : (room s : List ℕ) → 1100 ≤ length s → randomRoom s room ≡ room
-unfolding randomRoom
-long-random room s h = rw (ne-eqb (length s) 0 (λ e. omega arith), le-leb 1100 (length s) h) refl
+long-random : (room s : List ℕ) → 1700 ≤ length s → lineRandom s room ≡ room
+unfolding lineRandom
+long-random room s h = rw (le-leb 1700 (length s) h) refl
 
-long-good : (n : ℕ) → n ≤ 20 → (s : List ℕ) → 1100 ≤ length s → goodBytes n s ≡ false
+long-expected : (room s : List ℕ) → 1700 ≤ length s → lineExpected s room ≡ room
+unfolding lineExpected
+long-expected room s h = rw (le-leb 1700 (length s) h) refl
+
+long-good : (n : ℕ) → n ≤ 20 → (s : List ℕ) → 1700 ≤ length s → goodBytes n s ≡ false
 unfolding goodBytes
 long-good n k s h = rw (ne-eqb (length s / 2) n (λ e. omega arith)) refl
 
-long-bytes : (room : List ℕ) → length room ≤ 20 → (s : List ℕ) → 1100 ≤ length s → bytesRoom s room ≡ room
+long-bytes : (room : List ℕ) → length room ≤ 20 → (s : List ℕ) → 1700 ≤ length s → bytesRoom s room ≡ room
 unfolding bytesRoom
 long-bytes room k s h = rw (long-good (length room) k s h) refl
 
-pub cut-meaning : (command random s : List ℕ) → meaningOf (take 1100 s) command random ≡ meaningOf s command random
-cut-meaning command random = cut (λ s. meaningOf s command random) (Bad TooLong) (long-meaning command random)
+pub cut-line : (command random expected s : List ℕ) → lineOf (take 1700 s) command random expected ≡ lineOf s command random expected
+cut-line command random expected = cut (λ s. lineOf s command random expected) (badLine TooLong) (long-line command random expected)
 
-pub cut-command : (room s : List ℕ) → commandRoom (take 1100 s) room ≡ commandRoom s room
-cut-command room = cut (λ s. commandRoom s room) room (long-command room)
+pub cut-command : (room s : List ℕ) → lineCommand (take 1700 s) room ≡ lineCommand s room
+cut-command room = cut (λ s. lineCommand s room) room (long-command room)
 
-pub cut-random : (room s : List ℕ) → randomRoom (take 1100 s) room ≡ randomRoom s room
-cut-random room = cut (λ s. randomRoom s room) room (long-random room)
+pub cut-random : (room s : List ℕ) → lineRandom (take 1700 s) room ≡ lineRandom s room
+cut-random room = cut (λ s. lineRandom s room) room (long-random room)
 
-pub cut-good : (n : ℕ) → n ≤ 20 → (s : List ℕ) → goodBytes n (take 1100 s) ≡ goodBytes n s
+pub cut-expected : (room s : List ℕ) → lineExpected (take 1700 s) room ≡ lineExpected s room
+cut-expected room = cut (λ s. lineExpected s room) room (long-expected room)
+
+pub cut-good : (n : ℕ) → n ≤ 20 → (s : List ℕ) → goodBytes n (take 1700 s) ≡ goodBytes n s
 cut-good n k = cut (goodBytes n) false (long-good n k)
 
-pub cut-bytes : (room : List ℕ) → length room ≤ 20 → (s : List ℕ) → bytesRoom (take 1100 s) room ≡ bytesRoom s room
+pub cut-bytes : (room : List ℕ) → length room ≤ 20 → (s : List ℕ) → bytesRoom (take 1700 s) room ≡ bytesRoom s room
 cut-bytes room k = cut (λ s. bytesRoom s room) room (long-bytes room k)
 
 -- the part of the room that was filled is the tidied line, cut
-pub seen : (l old : List ℕ) {q : List ℕ} {n : ℕ} → length old ≡ 1100 → n ≡ length (take (length old) (tidied l))
-    → q ≡ over (take (length old) (tidied l)) old → take n q ≡ take 1100 (tidied l)
+pub seen : (l old : List ℕ) {q : List ℕ} {n : ℕ} → length old ≡ 1700 → n ≡ length (take (length old) (tidied l))
+    → q ≡ over (take (length old) (tidied l)) old → take n q ≡ take 1700 (tidied l)
 seen l old e en eq =
     ap₂ (λ k x. take k x) en eq
     ∙ take-append-seam (take (length old) (tidied l)) (drop (length (take (length old) (tidied l))) old)
     ∙ ap (λ k. take k (tidied l)) e
 
-pub seen-fits : (l old : List ℕ) {n : ℕ} → length old ≡ 1100 → n ≡ length (take (length old) (tidied l)) → n ≤ 1100
+pub seen-fits : (l old : List ℕ) {n : ℕ} → length old ≡ 1700 → n ≡ length (take (length old) (tidied l)) → n ≤ 1700
 seen-fits l old e en = omega (arith, e, en, length-take (length old) (tidied l))
 
 -- all that stands from an index on

@@ -1,1 +1,3 @@
 pub mod Plan
+pub mod Heads
+pub mod Numbers

@@ -10,7 +10,9 @@ use Rattle.lines.specs.Lines.{seek}
 use Rattle.lines.specs.Hex.{digitOf, isHex, bytesOf, decoded, decodedRoom}
 use Rattle.lines.specs.declared.Decoded.{Decoded}
 use Rattle.lines.specs.declared.Decoded.the-variants.{Bytes, NotHex, RoomTooSmall}
-use Rattle.plans.specs.declared.Reason.the-variants.{NoCommand, Stray, OddDigits, TooLong, BadRandom}
+use Rattle.plans.specs.declared.Reason.{Reason}
+use Rattle.plans.specs.declared.Reason.the-variants.{NoCommand, Stray, OddDigits, TooLong, BadRandom, BadExpected}
+use Rattle.plans.specs.declared.Line.{Line}
 use Rattle.plans.specs.declared.Meaning.{Meaning}
 use Rattle.plans.specs.declared.Meaning.the-variants.{Blank, Drawn, Given, Bad}
 use Rattle.plans.specs.declared.parts.Digits.{Digits}
@@ -76,20 +78,67 @@ abbrev pub givenBy : Bool → Digits → Meaning
 givenBy good (Fine n) = pick good (Given n) (Bad BadRandom)
 givenBy good (Wrong r) = Bad r
 
--- what the characters of a line mean; the rooms are the command's and the random bytes'
+-- what stands before '=' means; the rooms are the command's and the random bytes'
 unfoldable pub meaningOf : List ℕ → List ℕ → List ℕ → Meaning
 meaningOf s command random =
     pick (eqb (length s) 0) Blank
-    (pick (leb 1100 (length s)) (Bad TooLong)
     (pick (ltb (slash s) (length s))
     (givenBy (goodBytes (length random) (back s)) (digitsOf (front s) command))
-    (drawnBy (digitsOf (front s) command))))
+    (drawnBy (digitsOf s command)))
 
--- what the line leaves in the two rooms
+-- what it leaves in the two rooms
 unfoldable pub commandRoom : List ℕ → List ℕ → List ℕ
-commandRoom s room = pick (eqb (length s) 0) room (pick (leb 1100 (length s)) room (digitsRoom (front s) room))
+commandRoom s room =
+    pick (eqb (length s) 0) room (pick (ltb (slash s) (length s)) (digitsRoom (front s) room) (digitsRoom s room))
 
 unfoldable pub randomRoom : List ℕ → List ℕ → List ℕ
-randomRoom s room =
-    pick (eqb (length s) 0) room
-    (pick (leb 1100 (length s)) room (pick (ltb (slash s) (length s)) (bytesRoom (back s) room) room))
+randomRoom s room = pick (eqb (length s) 0) room (pick (ltb (slash s) (length s)) (bytesRoom (back s) room) room)
+
+-- a line that is bad, and one that expects nothing
+abbrev pub badLine : Reason → Line
+badLine r = record { meaning = Bad r; expected = 0 }
+
+abbrev pub plainLine : Meaning → Line
+plainLine m = record { meaning = m; expected = 0 }
+
+-- a command whose line has '=' expects at least one byte
+abbrev pub wantedBy : Meaning → Digits → Line
+wantedBy m (Fine n) = record { meaning = m; expected = n }
+wantedBy m (Wrong r) = badLine BadExpected
+
+unfoldable pub expectingBy : Meaning → Digits → Line
+expectingBy Blank d = badLine NoCommand
+expectingBy (Bad r) d = badLine r
+expectingBy (Drawn n) d = wantedBy (Drawn n) d
+expectingBy (Given n) d = wantedBy (Given n) d
+
+-- where '=' stands, else the end; what is before it and what is behind it
+unfoldable pub equals : List ℕ → ℕ
+equals s = seek s 0 61
+
+abbrev pub asked : List ℕ → List ℕ
+asked s = take (equals s) s
+
+abbrev pub awaited : List ℕ → List ℕ
+awaited s = drop (equals s + 1) s
+
+-- what the characters of a line mean: COMMAND, COMMAND / RANDOM, and either with = EXPECTED behind it
+unfoldable pub lineOf : List ℕ → List ℕ → List ℕ → List ℕ → Line
+lineOf s command random expected =
+    pick (leb 1700 (length s)) (badLine TooLong)
+    (pick (ltb (equals s) (length s))
+    (expectingBy (meaningOf (asked s) command random) (digitsOf (awaited s) expected))
+    (plainLine (meaningOf s command random)))
+
+-- what the line leaves in the three rooms
+unfoldable pub lineCommand : List ℕ → List ℕ → List ℕ
+lineCommand s room =
+    pick (leb 1700 (length s)) room (pick (ltb (equals s) (length s)) (commandRoom (asked s) room) (commandRoom s room))
+
+unfoldable pub lineRandom : List ℕ → List ℕ → List ℕ
+lineRandom s room =
+    pick (leb 1700 (length s)) room (pick (ltb (equals s) (length s)) (randomRoom (asked s) room) (randomRoom s room))
+
+unfoldable pub lineExpected : List ℕ → List ℕ → List ℕ
+lineExpected s room =
+    pick (leb 1700 (length s)) room (pick (ltb (equals s) (length s)) (digitsRoom (awaited s) room) room)

@@ -2,7 +2,10 @@
 ghost use mathlib.Core.Path.{_≡_};
 ghost use lib.ListN.{length, take};
 ghost use Rattle.base.specs.Bytes.{over};
-ghost use Rattle.plans.specs.Plan.{isBlank, capitalOf, tidied, strayIn, digitsOf, digitsRoom, goodBytes, bytesRoom, givenBy, drawnBy, meaningOf, commandRoom, randomRoom};
+ghost use Rattle.plans.specs.Plan.{isBlank, capitalOf, tidied, strayIn, digitsOf, digitsRoom, goodBytes, bytesRoom};
+ghost use Rattle.plans.specs.Plan.{givenBy, drawnBy, meaningOf, commandRoom, randomRoom, badLine, wantedBy, expectingBy};
+ghost use Rattle.plans.specs.Plan.{lineOf, lineCommand, lineRandom, lineExpected};
+use crate::Line;
 use crate::Meaning;
 use crate::Reason;
 use lines::Decoded;
@@ -14,7 +17,7 @@ pub enum Digits {
 }
 
 // A space, a tab, and the carriage return that may stand before a line's end.
-fn is_blank(c: u8) -> bool
+pub fn is_blank(c: u8) -> bool
     ensures { λ r. ⌜ r ≡ isBlank c ⌝ }
 {
     if c == 32 {
@@ -75,7 +78,7 @@ fn stray(s: &[u8]) -> bool
     false
 }
 
-// The command's bytes at the front of the room.
+// The bytes of a command, or of what it expects, at the front of the room.
 fn command_bytes(s: &[u8], room: &mut [u8]) -> Digits
     ensures answer { λ r. ⌜ r ≡ digitsOf (now (s .entry)) (now (room .entry)) ⌝ }
     ensures left { λ r. ⌜ now (room .exit) ≡ digitsRoom (now (s .entry)) (now (room .entry)) ⌝ }
@@ -140,8 +143,8 @@ fn without_random(front: &[u8], command: &mut [u8]) -> Meaning
     }
 }
 
-// What a tidied line means.
-pub fn tidy_meaning(s: &[u8], command: &mut [u8], random: &mut [u8]) -> Meaning
+// What the part of a tidied line before '=' means.
+fn tidy_meaning(s: &[u8], command: &mut [u8], random: &mut [u8]) -> Meaning
     ensures answer { λ r. ⌜ r ≡ meaningOf (now (s .entry)) (now (command .entry)) (now (random .entry)) ⌝ }
     ensures command { λ r. ⌜ now (command .exit) ≡ commandRoom (now (s .entry)) (now (command .entry)) ⌝ }
     ensures random { λ r. ⌜ now (random .exit) ≡ randomRoom (now (s .entry)) (now (random .entry)) ⌝ }
@@ -149,13 +152,69 @@ pub fn tidy_meaning(s: &[u8], command: &mut [u8], random: &mut [u8]) -> Meaning
     if s.len() == 0 {
         return Meaning::Blank;
     }
-    if 1100 <= s.len() {
-        return Meaning::Bad(Reason::TooLong);
-    }
     let at = lines::find(s, 0, b'/');
     if at < s.len() {
         let next = at + 1;
         return with_random(&s[..at], &s[next..], command, random);
     }
-    without_random(&s[..at], command)
+    without_random(s, command)
+}
+
+// A line that is bad.
+fn bad(r: Reason) -> Line
+    ensures { λ l. ⌜ l ≡ badLine r ⌝ }
+{
+    Line {
+        meaning: Meaning::Bad(r),
+        expected: 0,
+    }
+}
+
+// A command that expects so many bytes, or whose expectation is bad.
+fn wanted(m: Meaning, d: Digits) -> Line
+    ensures { λ l. ⌜ l ≡ wantedBy m d ⌝ }
+{
+    match d {
+        Digits::Fine(n) => Line {
+            meaning: m,
+            expected: n,
+        },
+        Digits::Wrong(_) => bad(Reason::BadExpected),
+    }
+}
+
+// A line that has '=', by what stands before and behind it.
+fn expecting(m: Meaning, d: Digits) -> Line
+    ensures { λ l. ⌜ l ≡ expectingBy m d ⌝ }
+{
+    match m {
+        Meaning::Blank => bad(Reason::NoCommand),
+        Meaning::Bad(r) => bad(r),
+        Meaning::Drawn(n) => wanted(Meaning::Drawn(n), d),
+        Meaning::Given(n) => wanted(Meaning::Given(n), d),
+    }
+}
+
+// What a tidied line means.
+pub fn tidy_line(s: &[u8], command: &mut [u8], random: &mut [u8], expected: &mut [u8]) -> Line
+    ensures answer { λ r. ⌜ r ≡ lineOf (now (s .entry)) (now (command .entry)) (now (random .entry)) (now (expected .entry)) ⌝ }
+    ensures command { λ r. ⌜ now (command .exit) ≡ lineCommand (now (s .entry)) (now (command .entry)) ⌝ }
+    ensures random { λ r. ⌜ now (random .exit) ≡ lineRandom (now (s .entry)) (now (random .entry)) ⌝ }
+    ensures expected { λ r. ⌜ now (expected .exit) ≡ lineExpected (now (s .entry)) (now (expected .entry)) ⌝ }
+{
+    if 1700 <= s.len() {
+        return bad(Reason::TooLong);
+    }
+    let at = lines::find(s, 0, b'=');
+    if at < s.len() {
+        let next = at + 1;
+        let m = tidy_meaning(&s[..at], command, random);
+        let d = command_bytes(&s[next..], expected);
+        return expecting(m, d);
+    }
+    let m = tidy_meaning(s, command, random);
+    Line {
+        meaning: m,
+        expected: 0,
+    }
 }

@@ -1,35 +1,166 @@
 -- Laws of a plan that is walked line by line.
 use mathlib.Core.Path.{_≡_, refl, sym, ap, subst, _∙_}
+use mathlib.Core.Bool.{Bool, true, false}
 use mathlib.Core.List.{List, []}
 use Prim.Native.Nat.{ℕ, zero, suc, _+_, _-_, _≤_, _<_}
 use native.Mathlib.Omega.{arith}
-use lib.ListN.{length, take, drop, length-drop, drop-of-length-le}
+use lib.Dec.{ltb}
+use lib.ListN.{length, take, drop, replicate, length-drop, drop-of-length-le}
 use lib.Seq.{drop-drop}
 use borrow.Author.Tests.{ne-eqb}
-use Rattle.state.specs.declared.Tag.{Tag}
 use Rattle.lines.specs.Lines.{before, seek}
-use Rattle.rehearse.specs.Steps.{Stepped, Walked}
+use Rattle.state.specs.declared.Tag.{Tag}
+use Rattle.rehearse.specs.declared.walk.Went.{Went}
+use Rattle.rehearse.specs.declared.walk.Turn.{Turn}
+use Rattle.rehearse.specs.declared.walk.Tally.{Tally}
+use Rattle.rehearse.specs.declared.walk.Rehearsal.{Rehearsal}
+use Rattle.base.specs.Decide.{pick}
+use Rattle.plans.specs.Plan.{said, lineCommand, lineRandom, lineExpected}
+use Rattle.plans.specs.declared.Line.{Line}
+use Rattle.verdict.specs.Replies.{statusIn, refusing, differing}
+use Rattle.rehearse.specs.Steps.{toldBy, wentBy, played, stays, Drew, Draws, CarriedLine, lineIn, Stepped}
+use Rattle.rehearse.specs.Counts.{moreBy, firstBy, countedBy, noTally, Below, Walked}
 
-none-left : (n : ℕ) (t : Tag) → Walked n [] t t
+none-left : (f k : ℕ) (t : Tag) (n : Tally) → Walked f k [] t n (record { tag = t; tally = n })
 unfolding Walked
-none-left zero t = refl
-none-left (suc n) t = refl
+none-left zero k t n = refl
+none-left (suc f) k t n = refl
 
 -- behind the last line nothing is left to do
-pub walked-end : (n : ℕ) (text : List ℕ) (at : ℕ) (t : Tag) → length text ≤ at → Walked n (drop at text) t t
-walked-end n text at t h = subst (λ s. Walked n s t t) (sym (drop-of-length-le text {i = at} h)) (none-left n t)
+pub walked-end : (f k : ℕ) (text : List ℕ) (at : ℕ) (t : Tag) (n : Tally) → length text ≤ at
+    → Walked f k (drop at text) t n (record { tag = t; tally = n })
+walked-end f k text at t n h =
+    subst (λ s. Walked f k s t n (record { tag = t; tally = n })) (sym (drop-of-length-le text {i = at} h)) (none-left f k t n)
 
 -- a line, and then the others
-pub walked-line : (n : ℕ) (text : List ℕ) (at end : ℕ) (t m r : Tag) → at < length text → end ≡ seek text at 10
-    → Stepped t (take (end - at) (drop at text)) m → Walked n (drop (end + 1) text) m r → Walked (suc n) (drop at text) t r
+pub walked-line : (f k : ℕ) (text : List ℕ) (at end : ℕ) (t : Tag) (n : Tally) (m : Turn) (r : Rehearsal) → at < length text
+    → end ≡ seek text at 10 → Stepped t (take (end - at) (drop at text)) m
+    → Walked f (k + 1) (drop (end + 1) text) (m .tag) (countedBy n (k + 1) (m .went)) r → Walked (suc f) k (drop at text) t n r
 unfolding Walked seek
-walked-line n text at end t m r h e s w =
+walked-line f k text at end t n m r h e s w =
     let b = before 10 (drop at text) in
     let x : end - at ≡ b = omega (arith, e) in
     let y : end + 1 ≡ at + (b + 1) = omega (arith, e) in
     rw (ne-eqb (length (drop at text)) 0 (λ z. omega (arith, z, length-drop at text)))
     (record {
       mid = m;
-      here = subst (λ k. Stepped t (take k (drop at text)) m) x s;
-      on = subst (λ l. Walked n l m r) (ap (λ k. drop k text) y ∙ sym (drop-drop (b + 1) at text)) w;
+      here = subst (λ j. Stepped t (take j (drop at text)) m) x s;
+      on = subst (λ l. Walked f (k + 1) l (m .tag) (countedBy n (k + 1) (m .went)) r)
+          (ap (λ j. drop j text) y ∙ sym (drop-drop (b + 1) at text))
+          w;
     })
+
+-- ---- no count is larger than the number of lines
+more-below : (m n : ℕ) (so : Bool) → n < m → moreBy n so < m + 1
+unfolding moreBy
+more-below m n true h = omega arith
+more-below m n false h = omega arith
+
+pub counted-below : (m k : ℕ) (n : Tally) (w : Went) → Below m n → Below (m + 1) (countedBy n k w)
+unfolding countedBy
+counted-below m k n w h =
+    record {
+      exchanges = more-below m (n .exchanges) (w .played) (h .exchanges);
+      refused = more-below m (n .refused) (w .refused) (h .refused);
+      skipped = more-below m (n .skipped) (w .skipped) (h .skipped);
+      undrawn = more-below m (n .undrawn) (w .undrawn) (h .undrawn);
+      expecting = more-below m (n .expecting) (w .expecting) (h .expecting);
+      unmet = more-below m (n .unmet) (w .unmet) (h .unmet);
+    }
+
+pub none-below : Below 1 noTally
+unfolding noTally
+none-below =
+    record {
+      exchanges = omega arith;
+      refused = omega arith;
+      skipped = omega arith;
+      undrawn = omega arith;
+      expecting = omega arith;
+      unmet = omega arith;
+    }
+
+pub below-more : (m k : ℕ) (n : Tally) → m ≤ k → Below m n → Below k n
+below-more m k n e h =
+    record {
+      exchanges = omega (arith, h .exchanges);
+      refused = omega (arith, h .refused);
+      skipped = omega (arith, h .skipped);
+      undrawn = omega (arith, h .undrawn);
+      expecting = omega (arith, h .expecting);
+      unmet = omega (arith, h .unmet);
+    }
+
+-- ---- what a line did, by what was computed for it
+pub told-is : (t : Tag) (reply expected : List ℕ) (s : ℕ) (f u : Bool) → s ≡ statusIn reply → f ≡ refusing s → u ≡ differing expected reply
+    → _≡_ {A = Turn}
+    (record {
+      tag = t;
+      went = record {
+        played = true;
+        refused = f;
+        skipped = false;
+        undrawn = false;
+        expecting = ltb 0 (length expected);
+        unmet = u;
+      };
+    })
+    (toldBy t reply expected)
+unfolding toldBy wentBy
+told-is t reply expected s f u p q r =
+    λ i. record {
+      tag = t;
+      went = record {
+        played = true;
+        refused = (q ∙ ap refusing p) i;
+        skipped = false;
+        undrawn = false;
+        expecting = ltb 0 (length expected);
+        unmet = r i;
+      };
+    }
+
+pub counted-is : (n : Tally) (k : ℕ) (w : Went) {a b c d e f g : ℕ} → a ≡ moreBy (n .exchanges) (w .played)
+    → b ≡ moreBy (n .refused) (w .refused) → c ≡ moreBy (n .skipped) (w .skipped) → d ≡ moreBy (n .undrawn) (w .undrawn)
+    → e ≡ moreBy (n .expecting) (w .expecting) → f ≡ moreBy (n .unmet) (w .unmet) → g ≡ firstBy (n .first) (n .unmet) (w .unmet) k
+    → _≡_ {A = Tally}
+    (record { exchanges = a; refused = b; skipped = c; undrawn = d; expecting = e; unmet = f; first = g })
+    (countedBy n k w)
+unfolding countedBy
+counted-is n k w pa pb pc pd pe pf pg =
+    λ i. record {
+      exchanges = pa i;
+      refused = pb i;
+      skipped = pc i;
+      undrawn = pd i;
+      expecting = pe i;
+      unmet = pf i;
+      first = pg i;
+    }
+
+-- the machine gave random bytes, and it gave none
+played-drew : (t : Tag) (c random expected : List ℕ) (r : Turn) → r ≡ played t c random expected → r .went .undrawn ≡ false
+unfolding played toldBy wentBy
+played-drew t c random expected r p = ap (λ (m : Turn). m .went .undrawn) p
+
+pub drew : (t : Tag) (c random expected : List ℕ) (r : Turn) → length random ≡ 20 → r ≡ played t c random expected → Draws t c expected r
+unfolding Draws
+drew t c random expected r h p =
+    subst (λ (b : Bool). pick b (r ≡ stays t true true) (Drew t c expected r)) (sym (played-drew t c random expected r p))
+    (record { random = random; twenty = h; is = p })
+
+stays-undrawn : (t : Tag) (r : Turn) → r ≡ stays t true true → r .went .undrawn ≡ true
+unfolding stays
+stays-undrawn t r p = ap (λ (m : Turn). m .went .undrawn) p
+
+pub undrew : (t : Tag) (c expected : List ℕ) (r : Turn) → r ≡ stays t true true → Draws t c expected r
+unfolding Draws
+undrew t c expected r p =
+    subst (λ (b : Bool). pick b (r ≡ stays t true true) (Drew t c expected r)) (sym (stays-undrawn t r p)) p
+
+-- a line by what it was read as
+pub stepped-is : (t : Tag) (line : List ℕ) (l : Line) (c x w : List ℕ) (r : Turn) → l ≡ lineIn (said line)
+    → c ≡ lineCommand (said line) (replicate 512 0) → x ≡ lineRandom (said line) (replicate 20 0)
+    → w ≡ lineExpected (said line) (replicate 258 0) → CarriedLine l t c x w r → Stepped t line r
+unfolding Stepped
+stepped-is t line l c x w r p q s u h = rw (sym p, sym q, sym s, sym u) h

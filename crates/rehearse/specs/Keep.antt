@@ -1,7 +1,7 @@
 -- A tag that is kept in a file between runs, and what the arguments ask for.
 use mathlib.Core.Bool.{Bool}
 use mathlib.Core.List.{List, [], _∷_, _++_}
-use Prim.Native.Nat.{ℕ}
+use Prim.Native.Nat.{ℕ, _+_}
 use lib.Dec.{leb}
 use lib.ListN.{length}
 use Rattle.base.specs.Decide.{pick}
@@ -14,8 +14,25 @@ use Rattle.image.specs.Answers.{readIn}
 use Rattle.rehearse.specs.declared.keep.Asked.{Asked}
 use Rattle.rehearse.specs.declared.keep.Asked.the-variants.{Plain, Image, NoFile, Unknown}
 use Rattle.rehearse.specs.declared.keep.Start.{Start}
-use Rattle.rehearse.specs.declared.keep.Start.the-variants.{Ready, OtherLength, OtherVersion, NotABit, Unsound, OtherUid}
+use Rattle.rehearse.specs.declared.keep.Start.the-variants.{Ready, OtherLength, OtherVersion, NotABit, Unsound, OtherUid, NoUid, Unread}
 use Rattle.rehearse.specs.declared.keep.Begun.{Begun}
+
+-- numbers of this house: what the arguments ask for, an unknown one with 10 and its place; and what a run starts from
+unfoldable pub askedNumber : Asked → ℕ
+askedNumber Plain = 0
+askedNumber Image = 1
+askedNumber NoFile = 2
+askedNumber (Unknown i) = 10 + i
+
+unfoldable pub startNumber : Start → ℕ
+startNumber Ready = 0
+startNumber OtherLength = 1
+startNumber OtherVersion = 2
+startNumber NotABit = 3
+startNumber Unsound = 4
+startNumber OtherUid = 5
+startNumber NoUid = 6
+startNumber Unread = 7
 
 -- no argument, or --image and a file; the program's name is counted, and has number 0
 unfoldable pub askedBy : ℕ → Bool → Asked

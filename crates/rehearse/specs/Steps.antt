@@ -1,52 +1,89 @@
--- What a line does to the tag.
+-- What a line does to the tag, and what is said of it.
+use mathlib.Core.Bool.{Bool, true, false}
 use mathlib.Core.List.{List}
-use mathlib.Core.Logic.{_⊎_}
 use mathlib.Core.Path.{_≡_}
-use Prim.Native.Nat.{ℕ, zero, suc, _+_}
-use lib.Dec.{leb, eqb}
-use lib.ListN.{length, take, drop, replicate}
+use Prim.Native.Nat.{ℕ}
+use lib.Dec.{ltb}
+use lib.ListN.{length, take, replicate}
 use Rattle.base.specs.Decide.{pick}
-use Rattle.lines.specs.Lines.{before}
 use Rattle.state.specs.declared.Tag.{Tag}
-use Rattle.tag.specs.Call.{answered, outcomeOf, byOutcome}
-use Rattle.plans.specs.Plan.{said, meaningOf, commandRoom, randomRoom}
+use Rattle.tag.specs.Call.{answered, outcomeOf, byOutcome, roomBy}
+use Rattle.plans.specs.Plan.{said, lineOf, lineCommand, lineRandom, lineExpected}
+use Rattle.plans.specs.declared.Line.{Line}
 use Rattle.plans.specs.declared.Meaning.{Meaning}
 use Rattle.plans.specs.declared.Meaning.the-variants.{Blank, Drawn, Given, Bad}
+use Rattle.verdict.specs.Replies.{statusIn, refusing, differing}
+use Rattle.rehearse.specs.declared.walk.Went.{Went}
+use Rattle.rehearse.specs.declared.walk.Turn.{Turn}
 
 -- the tag behind a command
 unfoldable pub nextOf : Tag → List ℕ → List ℕ → Tag
 nextOf t c random = byOutcome t (answered t c random) (outcomeOf t random (replicate 258 0)) .tag
 
--- the tag behind a command with some 20 random bytes
-pub record Drew (t : Tag) (c : List ℕ) (r : Tag) : Type 0 where
+-- the reply to it: as many first bytes of the room as the call says
+unfoldable pub replyTo : Tag → List ℕ → List ℕ → List ℕ
+replyTo t c random =
+    take (byOutcome t (answered t c random) (outcomeOf t random (replicate 258 0)) .length)
+    (roomBy (answered t c random) (replicate 258 0) (outcomeOf t random (replicate 258 0)))
+
+-- a command was played: its reply, and what was expected, which is nothing where it has no bytes
+unfoldable pub wentBy : List ℕ → List ℕ → Went
+wentBy reply expected =
+    record {
+      played = true;
+      refused = refusing (statusIn reply);
+      skipped = false;
+      undrawn = false;
+      expecting = ltb 0 (length expected);
+      unmet = differing expected reply;
+    }
+
+unfoldable pub toldBy : Tag → List ℕ → List ℕ → Turn
+toldBy t reply expected = record { tag = t; went = wentBy reply expected }
+
+unfoldable pub played : Tag → List ℕ → List ℕ → List ℕ → Turn
+played t c random expected = toldBy (nextOf t c random) (replyTo t c random) expected
+
+-- no command was played, and the tag stays; was the line skipped, and because the machine gave no random bytes?
+unfoldable pub stays : Tag → Bool → Bool → Turn
+stays t skipped undrawn =
+    record {
+      tag = t;
+      went = record {
+        played = false;
+        refused = false;
+        skipped = skipped;
+        undrawn = undrawn;
+        expecting = false;
+        unmet = false;
+      };
+    }
+
+-- a command that was played with some 20 random bytes
+pub record Drew (t : Tag) (c expected : List ℕ) (r : Turn) : Type 0 where
   pub random : List ℕ
   pub twenty : length random ≡ 20
-  pub next : r ≡ nextOf t c random
+  pub is : r ≡ played t c random expected
 
--- the machine gives random bytes, or the tag stays as it is
-unfoldable pub Draws : Tag → List ℕ → Tag → Type 0
-Draws t c r = (r ≡ t) ⊎ Drew t c r
+-- with random bytes of the machine; only where the line says that it gave none is it skipped
+unfoldable pub Draws : Tag → List ℕ → List ℕ → Turn → Type 0
+Draws t c expected r = pick (r .went .undrawn) (r ≡ stays t true true) (Drew t c expected r)
 
 -- a line that is blank or bad leaves the tag; any other is a command, the first n bytes of c
-unfoldable pub Carried : Meaning → Tag → List ℕ → List ℕ → Tag → Type 0
-Carried Blank t c x r = r ≡ t
-Carried (Bad e) t c x r = r ≡ t
-Carried (Drawn n) t c x r = Draws t (take n c) r
-Carried (Given n) t c x r = r ≡ pick (leb n (length c)) (nextOf t (take n c) x) t
+unfoldable pub Carried : Meaning → Tag → List ℕ → List ℕ → List ℕ → Turn → Type 0
+Carried Blank t c random expected r = r ≡ stays t false false
+Carried (Bad e) t c random expected r = r ≡ stays t true false
+Carried (Drawn n) t c random expected r = Draws t (take n c) expected r
+Carried (Given n) t c random expected r = r ≡ played t (take n c) random expected
 
-unfoldable pub Stepped : Tag → List ℕ → Tag → Type 0
+-- a line that was read, with what it left in the three rooms
+abbrev pub CarriedLine : Line → Tag → List ℕ → List ℕ → List ℕ → Turn → Type 0
+CarriedLine l t c random room r = Carried (l .meaning) t c random (take (l .expected) room) r
+
+abbrev pub lineIn : List ℕ → Line
+lineIn s = lineOf s (replicate 512 0) (replicate 20 0) (replicate 258 0)
+
+unfoldable pub Stepped : Tag → List ℕ → Turn → Type 0
 Stepped t line r =
-    Carried (meaningOf (said line) (replicate 512 0) (replicate 20 0)) t (commandRoom (said line) (replicate 512 0)) (randomRoom (said line) (replicate 20 0)) r
-
--- one thing and then another, with the tag between them
-pub record Between (P Q : Tag → Type 0) : Type 0 where
-  pub mid : Tag
-  pub here : P mid
-  pub on : Q mid
-
--- the lines of a text, each with the tag that the one before it left; the number is at least that of the lines
-unfoldable pub Walked : ℕ → List ℕ → Tag → Tag → Type 0
-Walked zero text t r = r ≡ t
-Walked (suc n) text t r =
-    pick (eqb (length text) 0) (r ≡ t)
-    (Between (λ m. Stepped t (take (before 10 text) text) m) (λ m. Walked n (drop (before 10 text + 1) text) m r))
+    CarriedLine (lineIn (said line)) t (lineCommand (said line) (replicate 512 0)) (lineRandom (said line) (replicate 20 0))
+    (lineExpected (said line) (replicate 258 0)) r

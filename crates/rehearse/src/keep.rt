@@ -1,5 +1,6 @@
 // A tag that is kept between runs: its image (docs/IMAGE.md) in a file.
 ghost use mathlib.Core.Path.{_≡_};
+ghost use Rattle.io.specs.Counts.{Counts};
 ghost use Rattle.rehearse.specs.Keep.{askedBy, startBy, keptIn, besideLength, besideRoom};
 use image::Found;
 use libc::STDERR_FILENO;
@@ -13,7 +14,7 @@ pub enum Asked {
     Unknown(usize),
 }
 
-// What a file gives a run to start from: its tag, or why not.
+// What a run starts from: the fresh tag or the file's, or why from none.
 pub enum Start {
     Ready,
     OtherLength,
@@ -21,6 +22,8 @@ pub enum Start {
     NotABit,
     Unsound,
     OtherUid,
+    NoUid,
+    Unread,
 }
 
 // The tag is the kept one where it is ready.
@@ -83,7 +86,7 @@ pub fn kept(s: &[u8], uid: &[u8; 7]) -> Begun
 }
 
 // FILE.new at the front of the room, and how long that name is; 0 where it does not fit.
-fn beside(path: &[u8], room: &mut [u8]) -> usize
+pub fn beside(path: &[u8], room: &mut [u8]) -> usize
     ensures count { λ r. ⌜ r ≡ besideLength (now (path .entry)) (now (room .entry)) ⌝ }
     ensures left { λ _. ⌜ now (room .exit) ≡ besideRoom (now (path .entry)) (now (room .entry)) ⌝ }
 {
@@ -116,48 +119,152 @@ pub fn fail(path: &[u8], so: &[u8]) {
     io::write_all(STDERR_FILENO, b"\n");
 }
 
-// A tag's image into a new file, for its owner alone since it holds keys; true where it has reached the device.
-fn filled(fd: i32, tag: Tag) -> bool {
-    let mut s = [0u8; 672];
-    image::to_image(tag, &mut s);
-    if libc::fchmod(fd, 0o600) != 0 {
-        return false;
+// Whether a path is a symbolic link.
+fn is_link(path: &[u8]) -> bool {
+    let mut p = [0u8; 4096];
+    let mut text = [0u8; 1];
+    base::put(path, &mut p, 0);
+    p[4095] = 0;
+    0 <= libc::readlink(&p, &mut text)
+}
+
+// The name of an open file, links followed, at the front of the room, and its length; 0 where the machine doesn't tell.
+fn name_of(fd: i32, room: &mut [u8]) -> usize
+    ensures { λ r. ⌜ Counts r (now (room .exit)) ⌝ }
+{
+    if fd < 0 {
+        return 0;
     }
-    if io::write_all(fd, &s) {
+    let mut p = [0u8; 4096];
+    let mut digits = [0u8; 20];
+    let n = io::decimal(fd as u64, &mut digits);
+    base::put(b"/proc/self/fd/", &mut p, 0);
+    base::put(&digits[..n], &mut p, 14);
+    p[4095] = 0;
+    io::count(libc::readlink(&p, room), room)
+}
+
+// A path as it is, where the room takes it.
+fn as_named(path: &[u8], room: &mut [u8]) -> usize
+    ensures { λ r. ⌜ Counts r (now (room .exit)) ⌝ }
+{
+    if room.len() < path.len() {
+        return 0;
+    }
+    base::put(path, room, 0);
+    path.len()
+}
+
+// A file that can't be opened: its name where there is none yet, else 0, and why is said.
+fn missing(path: &[u8], room: &mut [u8]) -> usize
+    ensures { λ r. ⌜ Counts r (now (room .exit)) ⌝ }
+{
+    if os::errno() != libc::ENOENT {
+        fail(path, b"nothing was rehearsed");
+        return 0;
+    }
+    if is_link(path) {
+        refuse(path, b"it is a link to a file that is not there");
+        return 0;
+    }
+    as_named(path, room)
+}
+
+// The name of the file that a path leads to, links followed, at the front of the room; 0 where there is none, and why is said.
+pub fn target(path: &[u8], room: &mut [u8]) -> usize
+    ensures { λ r. ⌜ Counts r (now (room .exit)) ⌝ }
+{
+    let fd = os::open_read(path);
+    if fd < 0 {
+        return missing(path, room);
+    }
+    let n = name_of(fd, room);
+    libc::close(fd);
+    if n == 0 {
+        refuse(path, b"/proc/self/fd does not tell its name");
+    }
+    n
+}
+
+// FILE.new is another run's, or was left behind by one.
+fn taken(name: &[u8]) {
+    refuse(
+        name,
+        b"it is there: another run has the tag, or one was stopped",
+    );
+    io::write_all(
+        STDERR_FILENO,
+        b"rehearse: where no run has it: if it has 672 bytes, it is the tag that the stopped run left; copy it over the file without .new. Then remove it\n",
+    );
+}
+
+// Makes FILE.new, for its owner alone since it will hold keys, and answers a descriptor; -1 where it is there already.
+pub fn hold(name: &[u8]) -> i32 {
+    let fd = os::create(name);
+    if 0 <= fd {
+        libc::fchmod(fd, 0o600);
+        return fd;
+    }
+    if os::errno() == libc::EEXIST {
+        taken(name);
+    } else {
+        fail(name, b"nothing was rehearsed");
+    }
+    -1
+}
+
+// Nothing is kept: FILE.new goes.
+pub fn release(fd: i32, name: &[u8]) {
+    libc::close(fd);
+    os::unlink(name);
+}
+
+// True where the bytes have reached the device.
+fn written(fd: i32, s: &[u8]) -> bool {
+    if io::write_all(fd, s) {
         return libc::fsync(fd) == 0;
     }
     false
 }
 
-// The same, and the file is closed.
-fn written(fd: i32, name: &[u8], tag: Tag) -> bool {
-    if filled(fd, tag) {
-        libc::close(fd);
-        return true;
+// There was no file: FILE.new takes its name.
+fn renamed(path: &[u8], name: &[u8]) {
+    if os::rename(name, path) != 0 {
+        fail(path, b"the tag was not kept");
+        os::unlink(name);
     }
-    fail(name, b"the tag was not kept");
-    libc::close(fd);
-    false
 }
 
-// The image goes to a new file, which then takes the name. A new file that is there already is left: it may be another run's.
-fn replace(path: &[u8], name: &[u8], tag: Tag) {
-    let fd = os::create(name);
+// The file is written over, so that its mode and its links stay, while FILE.new holds the same bytes.
+fn replaced(path: &[u8], name: &[u8], s: &[u8]) {
+    let fd = os::open_update(path);
     if fd < 0 {
-        return fail(name, b"the tag was not kept");
-    }
-    if written(fd, name, tag) {
-        if os::rename(name, path) == 0 {
-            return;
+        if os::errno() == libc::ENOENT {
+            return renamed(path, name);
         }
         fail(path, b"the tag was not kept");
+        os::unlink(name);
+        return;
     }
-    os::unlink(name);
+    if written(fd, s) {
+        os::unlink(name);
+    } else {
+        fail(
+            path,
+            b"the tag is in the file with .new alone: copy it over the file, and remove it",
+        );
+    }
+    libc::close(fd);
 }
 
-// The tag's image takes the place of the file at once, or the file stays as it was.
-pub fn store(path: &[u8], tag: Tag) {
-    let mut name = [0u8; 4096];
-    let n = beside(path, &mut name);
-    replace(path, &name[..n], tag);
+// The tag's image goes to FILE.new, whole, and then to the file.
+pub fn store(fd: i32, path: &[u8], name: &[u8], tag: Tag) {
+    let mut s = [0u8; 672];
+    image::to_image(tag, &mut s);
+    if written(fd, &s) {
+        libc::close(fd);
+        return replaced(path, name, &s);
+    }
+    fail(name, b"the tag was not kept");
+    release(fd, name);
 }

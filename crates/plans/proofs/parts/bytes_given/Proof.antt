@@ -25,11 +25,27 @@ same-length c = search needs
 
 returns-2 : tie.Need-returns-2
 unfolding goodBytes bytesRoom decodedRoom
-returns-2 c = let a = c .before .before .before .before .before .before .before .before .before .args in (rw (eq-eqb _ _ (c .before .before .before .before .before .before .if1 .left), sym (c .before .before .before .before .before .is-hex .ensures) ∙ c .before .before .before .before .if2 .taken) refl, c .before .before .decode .ensures .1 ∙ rw (eq-eqb _ _ (c .before .before .before .before .before .before .if1 .left), sym (c .before .before .before .before .before .is-hex .ensures) ∙ c .before .before .before .before .if2 .taken, le-leb (length (a .s .now) / 2) (length (a .room .now)) (omega (arith, c .before .before .before .before .before .before .if1 .left))) refl)
+returns-2 c =
+    let c4 = c .before .before .before .before in
+    let c5 = c4 .before in
+    let c6 = c5 .before in
+    let c9 = c6 .before .before .before in
+    let a = c9 .args in (
+      rw (eq-eqb _ _ (c6 .if1 .left), sym (c5 .is-hex .ensures) ∙ c4 .if2 .taken) refl,
+      c .before .before .decode .ensures .1
+          ∙ rw (
+            eq-eqb _ _ (c6 .if1 .left),
+            sym (c5 .is-hex .ensures) ∙ c4 .if2 .taken,
+            le-leb (length (a .s .now) / 2) (length (a .room .now)) (omega (arith, c6 .if1 .left)),
+          ) refl,
+    )
 
 returns-3 : tie.Need-returns-3
 unfolding goodBytes bytesRoom
-returns-3 c = (rw (eq-eqb _ _ (c .before .before .if1 .left), sym (c .before .is-hex .ensures) ∙ c .if2 .left) refl, rw (eq-eqb _ _ (c .before .before .if1 .left), sym (c .before .is-hex .ensures) ∙ c .if2 .left) refl)
+returns-3 c = (
+  rw (eq-eqb _ _ (c .before .before .if1 .left), sym (c .before .is-hex .ensures) ∙ c .if2 .left) refl,
+  rw (eq-eqb _ _ (c .before .before .if1 .left), sym (c .before .is-hex .ensures) ∙ c .if2 .left) refl,
+)
 
 pub bytes-given-spec : {M : Type 1} → statement M
 bytes-given-spec =

@@ -15,7 +15,10 @@ stray-requires c κs = search needs
 
 returns-2 : tie.Need-returns-2
 unfolding digitsOf digitsRoom
-returns-2 c = (rw (ne-eqb _ _ (c .before .before .if1 .left), sym (c .before .stray .ensures) ∙ c .if2 .taken) refl, rw (ne-eqb _ _ (c .before .before .if1 .left), sym (c .before .stray .ensures) ∙ c .if2 .taken) refl)
+returns-2 c = (
+  rw (ne-eqb _ _ (c .before .before .if1 .left), sym (c .before .stray .ensures) ∙ c .if2 .taken) refl,
+  rw (ne-eqb _ _ (c .before .before .if1 .left), sym (c .before .stray .ensures) ∙ c .if2 .taken) refl,
+)
 
 decode-requires : tie.Need-decode-requires
 decode-requires c κs = search needs
@@ -34,21 +37,60 @@ same-length c = search needs
 
 returns-3 : tie.Need-returns-3
 unfolding digitsOf digitsRoom
-returns-3 c = (rw (ne-eqb _ _ (c .before .before .before .before .before .before .before .before .before .if1 .left), sym (c .before .before .before .before .before .before .before .before .stray .ensures) ∙ c .before .before .before .before .before .before .before .if2 .left, sym (c .before .before .before .before .before .decode .ensures .0) ∙ c .before .d .given .1) refl, c .before .before .before .before .before .decode .ensures .1 ∙ rw (ne-eqb _ _ (c .before .before .before .before .before .before .before .before .before .if1 .left), sym (c .before .before .before .before .before .before .before .before .stray .ensures) ∙ c .before .before .before .before .before .before .before .if2 .left) refl)
+returns-3 c =
+    let c5 = c .before .before .before .before .before in
+    let c7 = c5 .before .before in
+    let c8 = c7 .before in
+    let c9 = c8 .before in (
+      rw (
+        ne-eqb _ _ (c9 .if1 .left),
+        sym (c8 .stray .ensures) ∙ c7 .if2 .left,
+        sym (c5 .decode .ensures .0)
+            ∙ c .before .d .given .1,
+      ) refl,
+      c5 .decode .ensures .1
+          ∙ rw (ne-eqb _ _ (c9 .if1 .left), sym (c8 .stray .ensures) ∙ c7 .if2 .left) refl,
+    )
 
 same-length-2 : tie.Need-same-length-2
 same-length-2 c = search needs
 
 returns-4 : tie.Need-returns-4
 unfolding digitsOf digitsRoom
-returns-4 c = (rw (ne-eqb _ _ (c .before .before .before .before .before .before .before .before .if1 .left), sym (c .before .before .before .before .before .before .before .stray .ensures) ∙ c .before .before .before .before .before .before .if2 .left, sym (c .before .before .before .before .decode .ensures .0) ∙ c .enum-told .given .1) refl, c .before .before .before .before .decode .ensures .1 ∙ rw (ne-eqb _ _ (c .before .before .before .before .before .before .before .before .if1 .left), sym (c .before .before .before .before .before .before .before .stray .ensures) ∙ c .before .before .before .before .before .before .if2 .left) refl)
+returns-4 c =
+    let c4 = c .before .before .before .before in
+    let c6 = c4 .before .before in
+    let c7 = c6 .before in
+    let c8 = c7 .before in (
+      rw (
+        ne-eqb _ _ (c8 .if1 .left),
+        sym (c7 .stray .ensures) ∙ c6 .if2 .left,
+        sym (c4 .decode .ensures .0)
+            ∙ c .enum-told .given .1,
+      ) refl,
+      c4 .decode .ensures .1
+          ∙ rw (ne-eqb _ _ (c8 .if1 .left), sym (c7 .stray .ensures) ∙ c6 .if2 .left) refl,
+    )
 
 same-length-3 : tie.Need-same-length-3
 same-length-3 c = search needs
 
 returns-5 : tie.Need-returns-5
 unfolding digitsOf digitsRoom
-returns-5 c = (rw (ne-eqb _ _ (c .before .before .before .before .before .before .before .before .if1 .left), sym (c .before .before .before .before .before .before .before .stray .ensures) ∙ c .before .before .before .before .before .before .if2 .left, sym (c .before .before .before .before .decode .ensures .0) ∙ c .enum-told2 .given .1) refl, c .before .before .before .before .decode .ensures .1 ∙ rw (ne-eqb _ _ (c .before .before .before .before .before .before .before .before .if1 .left), sym (c .before .before .before .before .before .before .before .stray .ensures) ∙ c .before .before .before .before .before .before .if2 .left) refl)
+returns-5 c =
+    let c4 = c .before .before .before .before in
+    let c6 = c4 .before .before in
+    let c7 = c6 .before in
+    let c8 = c7 .before in (
+      rw (
+        ne-eqb _ _ (c8 .if1 .left),
+        sym (c7 .stray .ensures) ∙ c6 .if2 .left,
+        sym (c4 .decode .ensures .0)
+            ∙ c .enum-told2 .given .1,
+      ) refl,
+      c4 .decode .ensures .1
+          ∙ rw (ne-eqb _ _ (c8 .if1 .left), sym (c7 .stray .ensures) ∙ c6 .if2 .left) refl,
+    )
 
 pub command-bytes-spec : {M : Type 1} → statement M
 command-bytes-spec =

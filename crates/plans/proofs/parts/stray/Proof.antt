@@ -26,7 +26,12 @@ digit-requires : tie.Need-digit-requires Inv-loop μ-loop
 digit-requires c κs = search needs
 
 returns : tie.Need-returns Inv-loop μ-loop
-returns c = let a = c .before .before .before .before .before .before .args in sym (sym (c .before .before .before .before .loop .inv .1) ∙ stray-step (a .s .now) (c .before .before .before .before .loop .i) (c .before .before .before .loop-test .taken) ∙ rw (le-leb 16 _ (subst (λ d. 16 ≤ d) (c .before .digit .ensures) (c .if1 .taken))) refl)
+returns c =
+    let c4 = c .before .before .before .before in
+    let c6 = c4 .before .before in
+    let a = c6 .args in
+    sym (sym (c4 .loop .inv .1) ∙ stray-step (a .s .now) (c4 .loop .i) (c .before .before .before .loop-test .taken)
+    ∙ rw (le-leb 16 _ (subst (λ d. 16 ≤ d) (c .before .digit .ensures) (c .if1 .taken))) refl)
 
 add-i : tie.Need-add-i Inv-loop μ-loop
 add-i c = omega arith
@@ -35,7 +40,14 @@ loop-less : tie.Need-loop-less Inv-loop μ-loop
 loop-less c = omega arith
 
 loop-again : tie.Need-loop-again Inv-loop μ-loop
-loop-again c = let a = c .before .before .before .before .before .before .args in (omega arith, sym (stray-step (a .s .now) (c .before .before .before .before .loop .i) (c .before .before .before .loop-test .taken) ∙ rw (lt-leb 16 _ (subst (λ d. d < 16) (c .before .digit .ensures) (c .if1 .left))) refl) ∙ c .before .before .before .before .loop .inv .1)
+loop-again c =
+    let c4 = c .before .before .before .before in
+    let c6 = c4 .before .before in
+    let a = c6 .args in (
+      omega arith,
+      sym (stray-step (a .s .now) (c4 .loop .i) (c .before .before .before .loop-test .taken)
+          ∙ rw (lt-leb 16 _ (subst (λ d. d < 16) (c .before .digit .ensures) (c .if1 .left))) refl) ∙ c4 .loop .inv .1,
+    )
 
 returns-2 : tie.Need-returns-2 Inv-loop μ-loop
 unfolding strayIn

@@ -35,13 +35,28 @@ loop-less : tie.Need-loop-less Inv-loop μ-loop
 loop-less c = omega arith
 
 loop-again : tie.Need-loop-again Inv-loop μ-loop
-loop-again c = let a = c .before .before .before .before .before .before .before .args in (omega arith, c .before .before .before .before .loop .inv .1, renamed (c .before .before .before .before .loop .inv .2) (tidied-blank (a .line .now) (c .before .before .before .before .loop .i) (c .before .before .before .loop-test .taken) (sym (c .before .is-blank .ensures) ∙ c .if1 .taken)), c .before .before .before .before .loop .inv .3)
+loop-again c =
+    let c4 = c .before .before .before .before in
+    let c7 = c4 .before .before .before in
+    let a = c7 .args in (
+      omega arith,
+      c4 .loop .inv .1,
+      renamed (c4 .loop .inv .2)
+          (tidied-blank (a .line .now) (c4 .loop .i) (c .before .before .before .loop-test .taken)
+          (sym (c .before .is-blank .ensures) ∙ c .if1 .taken)),
+      c4 .loop .inv .3,
+    )
 
 same-length : tie.Need-same-length Inv-loop μ-loop
 same-length c = c .before .before .before .before .before .loop .inv .1
 
 returns : tie.Need-returns Inv-loop μ-loop
-returns c = let a = c .before .before .before .before .before .before .before .before .args in held (c .before .before .before .before .before .loop .inv .2) (tidied-full (a .line .now) (c .before .before .before .before .before .loop .i) (sym (c .before .before .before .before .before .loop .inv .2 .len) ∙ c .if2 .taken ∙ c .before .before .before .before .before .loop .inv .1))
+returns c =
+    let c5 = c .before .before .before .before .before in
+    let c8 = c5 .before .before .before in
+    let a = c8 .args in
+    held (c5 .loop .inv .2) (tidied-full (a .line .now) (c5 .loop .i)
+    (sym (c5 .loop .inv .2 .len) ∙ c .if2 .taken ∙ c5 .loop .inv .1))
 
 shared-slice-read-capital : tie.Need-shared-slice-read-capital Inv-loop μ-loop
 shared-slice-read-capital c = omega arith
@@ -65,13 +80,31 @@ loop-less-2 : tie.Need-loop-less-2 Inv-loop μ-loop
 loop-less-2 c = omega arith
 
 loop-again-2 : tie.Need-loop-again-2 Inv-loop μ-loop
-loop-again-2 c = let a = c .before .before .before .before .before .before .before .before .before .before .before .before .before .before .before .args in (omega arith, ap length (c .before .before .put .ensures) ∙ laid-length _ _ _ ∙ c .before .before .before .before .before .before .before .before .before .before .before .before .loop .inv .1, renamed (more (c .before .before .before .before .before .before .before .before .before .before .before .before .loop .inv .2) (_ ∷ []) _ (omega (arith, c .before .before .before .before .before .before .before .if2 .left, c .before .before .before .before .before .before .before .before .before .before .before .before .loop .inv .1, c .before .before .before .before .before .before .before .before .before .before .before .before .loop .inv .3)) (c .before .before .put .ensures ∙ ap (λ v. laid (v ∷ []) (c .before .before .before .before .before .before .before .before .before .before .before .before .loop .n) (c .before .before .before .before .before .before .before .before .before .before .before .before .loop .room)) (c .before .before .before .before .before .capital .ensures))) (tidied-other (a .line .now) (c .before .before .before .before .before .before .before .before .before .before .before .before .loop .i) (c .before .before .before .before .before .before .before .before .before .before .before .loop-test .taken) (sym (c .before .before .before .before .before .before .before .before .before .is-blank .ensures) ∙ c .before .before .before .before .before .before .before .before .if1 .left)), omega (arith, c .before .before .before .before .before .before .before .if2 .left, c .before .before .before .before .before .before .before .before .before .before .before .before .loop .inv .1, c .before .before .before .before .before .before .before .before .before .before .before .before .loop .inv .3))
+loop-again-2 c =
+    let c7 = c .before .before .before .before .before .before .before in
+    let c8 = c7 .before in
+    let c9 = c8 .before in
+    let c11 = c9 .before .before in
+    let c12 = c11 .before in
+    let c15 = c12 .before .before .before in
+    let a = c15 .args in (
+      omega arith,
+      ap length (c .before .before .put .ensures) ∙ laid-length _ _ _ ∙ c12 .loop .inv .1,
+      renamed (more (c12 .loop .inv .2) (_ ∷ []) _ (omega (arith, c7 .if2 .left, c12 .loop .inv .1, c12 .loop .inv .3))
+          (c .before .before .put .ensures ∙ ap (λ v. laid (v ∷ []) (c12 .loop .n) (c12 .loop .room))
+          (c .before .before .before .before .before .capital .ensures)))
+          (tidied-other (a .line .now) (c12 .loop .i) (c11 .loop-test .taken) (sym (c9 .is-blank .ensures) ∙ c8 .if1 .left)),
+      omega (arith, c7 .if2 .left, c12 .loop .inv .1, c12 .loop .inv .3),
+    )
 
 same-length-2 : tie.Need-same-length-2 Inv-loop μ-loop
 same-length-2 c = c .before .loop .inv .1
 
 returns-2 : tie.Need-returns-2 Inv-loop μ-loop
-returns-2 c = let a = c .before .before .before .before .args in held (c .before .loop .inv .2) (tidied-whole (a .line .now) (c .before .loop .i) {l = length (a .room .now)} (c .loop-test .left) (omega (arith, c .before .loop .inv .2 .len, c .before .loop .inv .3)))
+returns-2 c =
+    let a = c .before .before .before .before .args in
+    held (c .before .loop .inv .2) (tidied-whole (a .line .now) (c .before .loop .i) {l = length (a .room .now)}
+    (c .loop-test .left) (omega (arith, c .before .loop .inv .2 .len, c .before .loop .inv .3)))
 
 pub tidy-spec : {M : Type 1} → statement M
 tidy-spec =

@@ -1,12 +1,11 @@
 -- `plans::parts::tidy_meaning` meets its contract.
-use Prim.Native.Nat.{_+_}
-use Rattle.plans.specs.Plan.{goodBytes, bytesRoom, givenBy, digitsOf, slash, meaningOf, commandRoom, randomRoom}
 use Rattle.plans.proofs.Tidying.{from-on}
-use borrow.Author.Tests.{lt-ltb, le-ltb, eq-eqb, ne-eqb, le-leb, lt-leb}
-use mathlib.Core.Path.{refl, sym, ap, _∙_}
+use Rattle.plans.specs.Plan.{goodBytes, bytesRoom, givenBy, digitsOf, slash, meaningOf, commandRoom, randomRoom}
 use lib.ListN.{length, take, length-take}
-use Rattle.lines.proofs.Steps.{seek-within}
+use Prim.Native.Nat.{_+_}
 use native.Mathlib.Omega.{arith}
+use borrow.Author.Tests.{lt-ltb, le-ltb, eq-eqb, ne-eqb, le-leb, lt-leb}
+use mathlib.Core.Path.{_≡_, refl, sym, ap, ap₂, _∙_}
 use borrow.Author.Needs.{needs}
 use Rattle.plans.proofs.parts.tidy_meaning.Statement.{statement}
 use Rattle.plans.proofs.parts.tidy_meaning.Tie as tie
@@ -14,10 +13,6 @@ use Rattle.plans.proofs.parts.tidy_meaning.Tie as tie
 returns : tie.Need-returns
 unfolding meaningOf commandRoom randomRoom
 returns c = (rw (eq-eqb _ _ (c .if1 .taken)) refl, (rw (eq-eqb _ _ (c .if1 .taken)) refl, rw (eq-eqb _ _ (c .if1 .taken)) refl))
-
-returns-2 : tie.Need-returns-2
-unfolding meaningOf commandRoom randomRoom
-returns-2 c = (rw (ne-eqb _ _ (c .before .if1 .left), le-leb _ _ (c .if2 .taken)) refl, (rw (ne-eqb _ _ (c .before .if1 .left), le-leb _ _ (c .if2 .taken)) refl, rw (ne-eqb _ _ (c .before .if1 .left), le-leb _ _ (c .if2 .taken)) refl))
 
 find-requires : tie.Need-find-requires
 find-requires c κs = search needs
@@ -46,12 +41,37 @@ same-length c = search needs
 same-length-2 : tie.Need-same-length-2
 same-length-2 c = search needs
 
-returns-3 : tie.Need-returns-3
+returns-2 : tie.Need-returns-2
 unfolding meaningOf commandRoom randomRoom slash
-returns-3 c = let a = c .before .before .before .before .before .before .before .before .before .before .before .before .before .before .before .before .args in let w = from-on (c .before .before .before .before .before .before .before .before .before .before .find .result + 1) (a .s .now) in (rw (ne-eqb _ _ (c .before .before .before .before .before .before .before .before .before .before .before .before .if1 .left), lt-leb _ _ (c .before .before .before .before .before .before .before .before .before .before .before .if2 .left), sym (c .before .before .before .before .before .before .before .before .before .before .find .ensures), lt-ltb _ _ (c .before .before .before .before .before .before .before .before .before .if3 .taken)) (c .before .before .before .before .with-random .ensures .0 ∙ ap (λ b. givenBy (goodBytes (length (a .random .now)) b) (digitsOf (take (c .before .before .before .before .before .before .before .before .before .before .find .result) (a .s .now)) (a .command .now))) w), (rw (ne-eqb _ _ (c .before .before .before .before .before .before .before .before .before .before .before .before .if1 .left), lt-leb _ _ (c .before .before .before .before .before .before .before .before .before .before .before .if2 .left), sym (c .before .before .before .before .before .before .before .before .before .before .find .ensures)) (c .before .before .before .before .with-random .ensures .1 .0), rw (ne-eqb _ _ (c .before .before .before .before .before .before .before .before .before .before .before .before .if1 .left), lt-leb _ _ (c .before .before .before .before .before .before .before .before .before .before .before .if2 .left), sym (c .before .before .before .before .before .before .before .before .before .before .find .ensures), lt-ltb _ _ (c .before .before .before .before .before .before .before .before .before .if3 .taken)) (c .before .before .before .before .with-random .ensures .1 .1 ∙ ap (λ b. bytesRoom b (a .random .now)) w)))
-
-slice-aggregate-without-random : tie.Need-slice-aggregate-without-random
-slice-aggregate-without-random c = let w = seek-within (c .before .before .before .before .before .before .before .before .args .s .now) 0 47 (omega arith) in simp length-take (omega (arith, c .before .before .find .ensures))
+returns-2 c =
+    let c10 = c .before .before .before .before .before .before .before .before .before .before in
+    let c15 = c10 .before .before .before .before .before in
+    let a = c15 .args in
+    let w = from-on (c10 .find .result + 1) (a .s .now) in (
+      rw (
+        ne-eqb _ _ (c .before .before .before .before .before .before .before .before .before .before .before .if1 .left),
+        sym (c .before .before .before .before .before .before .before .before .before .before .find .ensures),
+        lt-ltb _ _ (c .before .before .before .before .before .before .before .before .before .if2 .taken),
+      )
+          (c .before .before .before .before .with-random .ensures .0
+          ∙ ap (λ b. givenBy (goodBytes (length (a .random .now)) b)
+          (digitsOf (take (c .before .before .before .before .before .before .before .before .before .before .find .result)
+          (a .s .now)) (a .command .now))) w),
+      (
+        rw (
+          ne-eqb _ _ (c .before .before .before .before .before .before .before .before .before .before .before .if1 .left),
+          sym (c .before .before .before .before .before .before .before .before .before .before .find .ensures),
+          lt-ltb _ _ (c .before .before .before .before .before .before .before .before .before .if2 .taken),
+        )
+            (c .before .before .before .before .with-random .ensures .1 .0),
+        rw (
+          ne-eqb _ _ (c .before .before .before .before .before .before .before .before .before .before .before .if1 .left),
+          sym (c .before .before .before .before .before .before .before .before .before .before .find .ensures),
+          lt-ltb _ _ (c .before .before .before .before .before .before .before .before .before .if2 .taken),
+        )
+            (c .before .before .before .before .with-random .ensures .1 .1 ∙ ap (λ b. bytesRoom b (a .random .now)) w),
+      ),
+    )
 
 without-random-requires : tie.Need-without-random-requires
 without-random-requires c κs = search needs
@@ -59,16 +79,26 @@ without-random-requires c κs = search needs
 same-length-3 : tie.Need-same-length-3
 same-length-3 c = search needs
 
-returns-4 : tie.Need-returns-4
+returns-3 : tie.Need-returns-3
 unfolding meaningOf commandRoom randomRoom slash
-returns-4 c = (rw (ne-eqb _ _ (c .before .before .before .before .before .before .before .before .if1 .left), lt-leb _ _ (c .before .before .before .before .before .before .before .if2 .left), sym (c .before .before .before .before .before .before .find .ensures), le-ltb _ _ (c .before .before .before .before .before .if3 .left)) (c .before .before .without-random .ensures .0), (rw (ne-eqb _ _ (c .before .before .before .before .before .before .before .before .if1 .left), lt-leb _ _ (c .before .before .before .before .before .before .before .if2 .left), sym (c .before .before .before .before .before .before .find .ensures)) (c .before .before .without-random .ensures .1), rw (ne-eqb _ _ (c .before .before .before .before .before .before .before .before .if1 .left), lt-leb _ _ (c .before .before .before .before .before .before .before .if2 .left), sym (c .before .before .before .before .before .before .find .ensures), le-ltb _ _ (c .before .before .before .before .before .if3 .left)) refl))
+returns-3 c =
+    let c4 = c .before .before .before .before in
+    let c5 = c4 .before in
+    let c6 = c5 .before in (
+      rw (ne-eqb _ _ (c6 .if1 .left), sym (c5 .find .ensures), le-ltb _ _ (c4 .if2 .left))
+          (c .before .before .without-random .ensures .0),
+      (
+        rw (ne-eqb _ _ (c6 .if1 .left), sym (c5 .find .ensures), le-ltb _ _ (c4 .if2 .left))
+            (c .before .before .without-random .ensures .1),
+        rw (ne-eqb _ _ (c6 .if1 .left), sym (c5 .find .ensures), le-ltb _ _ (c4 .if2 .left)) refl,
+      ),
+    )
 
 pub tidy-meaning-spec : {M : Type 1} → statement M
 tidy-meaning-spec =
     tie.close
     (tie.spec
     returns
-    returns-2
     find-requires
     add-next
     slice-aggregate-with-random
@@ -78,8 +108,7 @@ tidy-meaning-spec =
     with-random-requires
     same-length
     same-length-2
-    returns-3
-    slice-aggregate-without-random
+    returns-2
     without-random-requires
     same-length-3
-    returns-4)
+    returns-3)

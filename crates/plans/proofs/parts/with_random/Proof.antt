@@ -23,7 +23,16 @@ same-length-2 : tie.Need-same-length-2
 same-length-2 c = search needs
 
 returns : tie.Need-returns
-returns c = (rw (sym (c .before .before .before .before .before .before .command-bytes .ensures .0) ∙ c .before .before .d2 .given .1, sym (c .before .before .before .before .before .before .before .before .before .before .bytes-given .ensures .0) ∙ c .if1 .taken) refl, (c .before .before .before .before .before .before .command-bytes .ensures .1, c .before .before .before .before .before .before .before .before .before .before .bytes-given .ensures .1))
+returns c =
+    let c6 = c .before .before .before .before .before .before in
+    let c10 = c6 .before .before .before .before in (
+      rw (
+        sym (c6 .command-bytes .ensures .0) ∙ c .before .before .d2 .given .1,
+        sym (c10 .bytes-given .ensures .0)
+            ∙ c .if1 .taken,
+      ) refl,
+      (c6 .command-bytes .ensures .1, c10 .bytes-given .ensures .1),
+    )
 
 same-length-3 : tie.Need-same-length-3
 same-length-3 c = search needs
@@ -32,7 +41,12 @@ same-length-4 : tie.Need-same-length-4
 same-length-4 c = search needs
 
 returns-2 : tie.Need-returns-2
-returns-2 c = (rw (sym (c .before .before .before .before .before .command-bytes .ensures .0) ∙ c .before .d .given .1) refl, (c .before .before .before .before .before .command-bytes .ensures .1, c .before .before .before .before .before .before .before .before .before .bytes-given .ensures .1))
+returns-2 c =
+    let c5 = c .before .before .before .before .before in
+    let c9 = c5 .before .before .before .before in (
+      rw (sym (c5 .command-bytes .ensures .0) ∙ c .before .d .given .1) refl,
+      (c5 .command-bytes .ensures .1, c9 .bytes-given .ensures .1),
+    )
 
 same-length-5 : tie.Need-same-length-5
 same-length-5 c = search needs
@@ -41,7 +55,16 @@ same-length-6 : tie.Need-same-length-6
 same-length-6 c = search needs
 
 returns-3 : tie.Need-returns-3
-returns-3 c = (rw (sym (c .before .before .before .before .before .before .command-bytes .ensures .0) ∙ c .before .before .d2 .given .1, sym (c .before .before .before .before .before .before .before .before .before .before .bytes-given .ensures .0) ∙ c .if1 .left) refl, (c .before .before .before .before .before .before .command-bytes .ensures .1, c .before .before .before .before .before .before .before .before .before .before .bytes-given .ensures .1))
+returns-3 c =
+    let c6 = c .before .before .before .before .before .before in
+    let c10 = c6 .before .before .before .before in (
+      rw (
+        sym (c6 .command-bytes .ensures .0) ∙ c .before .before .d2 .given .1,
+        sym (c10 .bytes-given .ensures .0)
+            ∙ c .if1 .left,
+      ) refl,
+      (c6 .command-bytes .ensures .1, c10 .bytes-given .ensures .1),
+    )
 
 pub with-random-spec : {M : Type 1} → statement M
 with-random-spec =

@@ -30,7 +30,14 @@ same-length : tie.Need-same-length
 same-length c = search needs
 
 returns-3 : tie.Need-returns-3
-returns-3 c = let a = c .before .before .before .before .before .before .before .before .before .before .before .before .before .args in beside-is (a .path .now) (a .room .now) _ _ (omega (arith, c .before .before .before .before .before .before .before .before .before .before .if1 .left, c .before .before .before .before .before .before .before .before .before .if2 .left)) (c .before .before .before .before .before .before .before .put .ensures) (c .before .before .put2 .ensures)
+returns-3 c =
+    let c7 = c .before .before .before .before .before .before .before in
+    let c9 = c7 .before .before in
+    let c10 = c9 .before in
+    let c13 = c10 .before .before .before in
+    let a = c13 .args in
+    beside-is (a .path .now) (a .room .now) _ _ (omega (arith, c10 .if1 .left, c9 .if2 .left)) (c7 .put .ensures)
+    (c .before .before .put2 .ensures)
 
 pub beside-spec : {M : Type 1} → statement M
 beside-spec =

@@ -20,7 +20,12 @@ judged-requires : tie.Need-judged-requires
 judged-requires c κs = search needs
 
 returns : tie.Need-returns
-returns c = let a = c .before .before .before .before .before .before .before .before .before .args in kept-is (a .s .now) (a .uid .now) (c .before .before .before .before .before .before .before .from-image .result) _ _ _ (c .before .before .before .before .before .before .before .from-image .ensures) (c .before .before .before .before .sound .ensures) (c .before .alike .ensures) (c .judged .ensures)
+returns c =
+    let c7 = c .before .before .before .before .before .before .before in
+    let c9 = c7 .before .before in
+    let a = c9 .args in
+    kept-is (a .s .now) (a .uid .now) (c7 .from-image .result) _ _ _ (c7 .from-image .ensures)
+    (c .before .before .before .before .sound .ensures) (c .before .alike .ensures) (c .judged .ensures)
 
 pub kept-spec : {M : Type 1} → statement M
 kept-spec =

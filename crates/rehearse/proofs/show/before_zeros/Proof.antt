@@ -1,0 +1,54 @@
+-- `rehearse::show::before_zeros` meets its contract.
+use lib.Seq.{length-take-le}
+use lib.ListN.{length}
+use Prim.Native.Nat.{_≤_}
+use native.Mathlib.Omega.{arith}
+use mathlib.Core.Path.{refl, sym}
+use borrow.Author.Needs.{needs}
+use Rattle.rehearse.proofs.show.before_zeros.Statement.{statement}
+use Rattle.rehearse.proofs.show.before_zeros.Tie as tie
+
+abbrev Inv-loop : tie.InvT-loop
+Inv-loop s n₀ n = n ≤ length s
+
+abbrev μ-loop : tie.MeasureT-loop
+μ-loop s n₀ n = n
+
+loop-holds : tie.Need-loop-holds Inv-loop μ-loop
+loop-holds c = omega arith
+
+sub-if1 : tie.Need-sub-if1 Inv-loop μ-loop
+sub-if1 c = omega arith
+
+shared-slice-read-if1 : tie.Need-shared-slice-read-if1 Inv-loop μ-loop
+shared-slice-read-if1 c = omega arith
+
+returns : tie.Need-returns Inv-loop μ-loop
+returns c = (omega arith, sym (length-take-le _ _ (omega arith)))
+
+sub-n : tie.Need-sub-n Inv-loop μ-loop
+sub-n c = omega arith
+
+loop-less : tie.Need-loop-less Inv-loop μ-loop
+loop-less c = omega arith
+
+loop-again : tie.Need-loop-again Inv-loop μ-loop
+loop-again c = omega arith
+
+returns-2 : tie.Need-returns-2 Inv-loop μ-loop
+returns-2 c = (omega arith, refl)
+
+pub before-zeros-spec : {M : Type 1} → statement M
+before-zeros-spec =
+    tie.close
+    (tie.spec
+    Inv-loop
+    μ-loop
+    loop-holds
+    sub-if1
+    shared-slice-read-if1
+    returns
+    sub-n
+    loop-less
+    loop-again
+    returns-2)
