@@ -36,6 +36,18 @@ unfoldable pub charsOf : List ℕ → List ℕ
 charsOf [] = []
 charsOf (b ∷ bs) = charOf (b / 16 % 16) ∷ charOf (b % 16) ∷ charsOf bs
 
+-- numbers of the house: 0 for bytes, 1 for a text that is none, 2 for a room that they do not fit in
+abbrev pub decodedNumber : Decoded → ℕ
+decodedNumber (Bytes n) = 0
+decodedNumber NotHex = 1
+decodedNumber RoomTooSmall = 2
+
+-- and how many bytes
+abbrev pub decodedCount : Decoded → ℕ
+decodedCount (Bytes n) = n
+decodedCount NotHex = 0
+decodedCount RoomTooSmall = 0
+
 -- what decoding answers, and what it leaves in the room
 unfoldable pub decoded : List ℕ → List ℕ → Decoded
 decoded s room = pick (isHex s) (pick (leb (length s / 2) (length room)) (Bytes (length s / 2)) RoomTooSmall) NotHex

@@ -28,7 +28,11 @@ shared-slice-read-if2-2 : tie.Need-shared-slice-read-if2-2 Inv-loop μ-loop
 shared-slice-read-if2-2 c = omega arith
 
 returns-2 : tie.Need-returns-2 Inv-loop μ-loop
-returns-2 c = sym (let a = c .before .before .before .before .before .before .args in sym (c .before .before .before .before .loop .inv .2) ∙ same-step (a .a .now) (a .b .now) (c .before .before .before .before .loop .i) (omega arith) (omega arith) ∙ simp (ne-eqb _ _ (c .if2 .taken)))
+returns-2 c =
+    let c4 = c .before .before .before .before in
+    let c6 = c4 .before .before in
+    sym (let a = c6 .args in sym (c4 .loop .inv .2) ∙ same-step (a .a .now) (a .b .now) (c4 .loop .i) (omega arith) (omega arith)
+    ∙ simp (ne-eqb _ _ (c .if2 .taken)))
 
 add-i : tie.Need-add-i Inv-loop μ-loop
 add-i c = omega arith
@@ -37,11 +41,24 @@ loop-less : tie.Need-loop-less Inv-loop μ-loop
 loop-less c = omega arith
 
 loop-again : tie.Need-loop-again Inv-loop μ-loop
-loop-again c = let a = c .before .before .before .before .before .before .args in (omega arith, c .before .before .before .before .before .if1 .left, sym (same-step (a .a .now) (a .b .now) (c .before .before .before .before .loop .i) (omega arith) (omega arith) ∙ simp (eq-eqb _ _ (c .if2 .left))) ∙ c .before .before .before .before .loop .inv .2)
+loop-again c =
+    let c4 = c .before .before .before .before in
+    let c6 = c4 .before .before in
+    let a = c6 .args in (
+      omega arith,
+      c .before .before .before .before .before .if1 .left,
+      sym (same-step (a .a .now) (a .b .now) (c4 .loop .i) (omega arith) (omega arith) ∙ simp (eq-eqb _ _ (c .if2 .left)))
+          ∙ c4 .loop .inv .2,
+    )
 
 returns-3 : tie.Need-returns-3 Inv-loop μ-loop
 unfolding same
-returns-3 c = let a = c .before .before .before .args in sym (sym (c .before .loop .inv .2) ∙ rw (drop-of-length-le (a .a .now) {i = c .before .loop .i} (omega arith), drop-of-length-le (a .b .now) {i = c .before .loop .i} (omega arith)))
+returns-3 c =
+    let a = c .before .before .before .args in
+    sym (sym (c .before .loop .inv .2) ∙ rw (
+      drop-of-length-le (a .a .now) {i = c .before .loop .i} (omega arith),
+      drop-of-length-le (a .b .now) {i = c .before .loop .i} (omega arith),
+    ))
 
 pub alike-spec : {M : Type 1} → statement M
 alike-spec =

@@ -34,7 +34,11 @@ add-dst : tie.Need-add-dst Inv-loop μ-loop
 add-dst c = omega arith
 
 slice-write-dst : tie.Need-slice-write-dst Inv-loop μ-loop
-slice-write-dst c = let a = c .before .before .before .before .before .args in let l : length (c .before .before .loop .dst) ≡ length (a .dst .now) = ap length (c .before .before .loop .inv .2) ∙ length-paste (a .dst .now) (a .at) (a .src .now) (c .before .before .loop .i) (omega arith) (omega arith) in omega arith
+slice-write-dst c =
+    let a = c .before .before .before .before .before .args in
+    let l : length (c .before .before .loop .dst) ≡ length (a .dst .now) = ap length (c .before .before .loop .inv .2)
+    ∙ length-paste (a .dst .now) (a .at) (a .src .now) (c .before .before .loop .i) (omega arith) (omega arith) in
+    omega arith
 
 add-i : tie.Need-add-i Inv-loop μ-loop
 add-i c = omega arith
@@ -43,13 +47,27 @@ loop-less : tie.Need-loop-less Inv-loop μ-loop
 loop-less c = omega arith
 
 loop-again : tie.Need-loop-again Inv-loop μ-loop
-loop-again c = let a = c .before .before .before .before .before .args in (omega arith, omega arith, rw (c .before .before .loop .inv .2, add-one) (paste-suc (a .dst .now) (a .at) (a .src .now) (c .before .before .loop .i) 0 (omega arith) (omega arith)))
+loop-again c =
+    let a = c .before .before .before .before .before .args in (
+      omega arith,
+      omega arith,
+      rw (c .before .before .loop .inv .2, add-one)
+          (paste-suc (a .dst .now) (a .at) (a .src .now) (c .before .before .loop .i) 0 (omega arith) (omega arith)),
+    )
 
 same-length : tie.Need-same-length Inv-loop μ-loop
-same-length c = let a = c .before .before .before .before .args in let l : length (c .before .loop .dst) ≡ length (a .dst .now) = ap length (c .before .loop .inv .2) ∙ length-paste (a .dst .now) (a .at) (a .src .now) (c .before .loop .i) (omega arith) (omega arith) in l
+same-length c =
+    let a = c .before .before .before .before .args in
+    let l : length (c .before .loop .dst) ≡ length (a .dst .now) = ap length (c .before .loop .inv .2)
+    ∙ length-paste (a .dst .now) (a .at) (a .src .now) (c .before .loop .i) (omega arith) (omega arith) in
+    l
 
 returns-3 : tie.Need-returns-3 Inv-loop μ-loop
-returns-3 c = let a = c .before .before .before .before .args in let e : c .before .loop .i ≡ length (a .src .now) = omega arith in c .before .loop .inv .2 ∙ ap (λ n. paste (a .dst .now) (a .at) (a .src .now) n) e ∙ sym (laid-fits (a .src .now) (a .at) (a .dst .now) (omega arith))
+returns-3 c =
+    let a = c .before .before .before .before .args in
+    let e : c .before .loop .i ≡ length (a .src .now) = omega arith in
+    c .before .loop .inv .2 ∙ ap (λ n. paste (a .dst .now) (a .at) (a .src .now) n) e
+    ∙ sym (laid-fits (a .src .now) (a .at) (a .dst .now) (omega arith))
 
 pub put-spec : {M : Type 1} → statement M
 put-spec =

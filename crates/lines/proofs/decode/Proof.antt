@@ -22,18 +22,35 @@ slice-aggregate-fill : tie.Need-slice-aggregate-fill
 slice-aggregate-fill c = simp length-take (omega arith)
 
 fill-requires : tie.Need-fill-requires
-fill-requires c κs = let e = hex-even (c .before .before .before .before .before .before .args .text .now) (sym (c .before .before .before .is-hex .ensures) ∙ c .before .before .if1 .taken) in let l : length (take (length (c .before .before .before .before .before .before .args .text .now) / 2) (c .before .before .before .before .before .before .args .room .now)) ≡ (length (c .before .before .before .before .before .before .args .text .now) / 2) = length-take-le (length (c .before .before .before .before .before .before .args .text .now) / 2) (c .before .before .before .before .before .before .args .room .now) (c .before .if2 .taken) in omega arith
+fill-requires c κs =
+    let c6 = c .before .before .before .before .before .before in
+    let e = hex-even (c6 .args .text .now) (sym (c .before .before .before .is-hex .ensures) ∙ c .before .before .if1 .taken) in
+    let l : length (take (length (c6 .args .text .now) / 2) (c6 .args .room .now)) ≡ (length (c6 .args .text .now) / 2) =
+    length-take-le (length (c6 .args .text .now) / 2) (c6 .args .room .now) (c .before .if2 .taken) in
+    omega arith
 
 same-length : tie.Need-same-length
 same-length c = search needs
 
 returns : tie.Need-returns
 unfolding decoded decodedRoom
-returns c = (rw (sym (c .before .before .before .before .before .before .is-hex .ensures) ∙ c .before .before .before .before .before .if1 .taken, le-leb _ _ (c .before .before .before .before .if2 .taken)) refl, rw (sym (c .before .before .before .before .before .before .is-hex .ensures) ∙ c .before .before .before .before .before .if1 .taken, le-leb _ _ (c .before .before .before .before .if2 .taken)) (ap₂ (λ b k. b ++ drop k (c .before .before .before .before .before .before .before .before .before .args .room .now)) (c .before .before .fill .ensures) (sym (bytes-half (c .before .before .before .before .before .before .before .before .before .args .text .now) (sym (c .before .before .before .before .before .before .is-hex .ensures) ∙ c .before .before .before .before .before .if1 .taken)))))
+returns c =
+    let c4 = c .before .before .before .before in
+    let c5 = c4 .before in
+    let c6 = c5 .before in
+    let c9 = c6 .before .before .before in (
+      rw (sym (c6 .is-hex .ensures) ∙ c5 .if1 .taken, le-leb _ _ (c4 .if2 .taken)) refl,
+      rw (sym (c6 .is-hex .ensures) ∙ c5 .if1 .taken, le-leb _ _ (c4 .if2 .taken))
+          (ap₂ (λ b k. b ++ drop k (c9 .args .room .now)) (c .before .before .fill .ensures)
+          (sym (bytes-half (c9 .args .text .now) (sym (c6 .is-hex .ensures) ∙ c5 .if1 .taken)))),
+    )
 
 returns-2 : tie.Need-returns-2
 unfolding decoded decodedRoom
-returns-2 c = (rw (sym (c .before .before .is-hex .ensures) ∙ c .before .if1 .taken, lt-leb _ _ (c .if2 .left)) refl, rw (sym (c .before .before .is-hex .ensures) ∙ c .before .if1 .taken, lt-leb _ _ (c .if2 .left)) refl)
+returns-2 c = (
+  rw (sym (c .before .before .is-hex .ensures) ∙ c .before .if1 .taken, lt-leb _ _ (c .if2 .left)) refl,
+  rw (sym (c .before .before .is-hex .ensures) ∙ c .before .if1 .taken, lt-leb _ _ (c .if2 .left)) refl,
+)
 
 returns-3 : tie.Need-returns-3
 unfolding decoded decodedRoom

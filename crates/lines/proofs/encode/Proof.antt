@@ -53,14 +53,29 @@ loop-less : tie.Need-loop-less Inv-loop μ-loop
 loop-less c = omega arith
 
 loop-again : tie.Need-loop-again Inv-loop μ-loop
-loop-again c = (omega arith, c .before .before .before .before .before .before .before .before .before .before .loop .inv .1, c .before .before .put .kept .1 .0 ∙ c .before .before .before .before .before .before .before .before .before .before .loop .inv .2, chars-more (c .before .before .before .before .before .before .before .before .before .before .before .before .before .before .args .s .now) (c .before .before .before .before .before .before .before .before .before .before .before .before .before .before .args .room .now) (c .before .before .before .before .before .before .before .before .before .before .loop .room) _ (c .before .before .before .before .before .before .before .before .before .before .loop .i) (c .before .before .before .before .before .before .before .before .before .loop-test .taken) (c .before .before .before .before .before .before .before .before .before .before .loop .inv .1) (c .before .before .before .before .before .before .before .before .before .before .loop .inv .3) (c .before .before .put .ensures ∙ ap₂ (λ a b. laid (a ∷ b ∷ []) ((c .before .before .before .before .before .before .before .before .before .before .loop .i) * 2) (c .before .before .before .before .before .before .before .before .before .before .loop .room)) (c .before .before .before .before .before .before .before .character .ensures) (c .before .before .before .before .before .character2 .ensures)))
+loop-again c =
+    let c7 = c .before .before .before .before .before .before .before in
+    let c9 = c7 .before .before in
+    let c10 = c9 .before in
+    let c14 = c10 .before .before .before .before in (
+      omega arith,
+      c10 .loop .inv .1,
+      c .before .before .put .kept .1 .0 ∙ c10 .loop .inv .2,
+      chars-more (c14 .args .s .now) (c14 .args .room .now) (c10 .loop .room) _ (c10 .loop .i) (c9 .loop-test .taken)
+          (c10 .loop .inv .1) (c10 .loop .inv .3) (c .before .before .put .ensures
+          ∙ ap₂ (λ a b. laid (a ∷ b ∷ []) ((c10 .loop .i) * 2) (c10 .loop .room)) (c7 .character .ensures)
+          (c .before .before .before .before .before .character2 .ensures)),
+    )
 
 same-length : tie.Need-same-length Inv-loop μ-loop
 same-length c = c .before .loop .inv .2
 
 returns : tie.Need-returns Inv-loop μ-loop
 unfolding charsRoom
-returns c = rw (le-leb _ _ (c .before .before .if1 .taken)) (c .before .loop .inv .3 ∙ chars-all (c .before .before .before .before .before .args .s .now) (c .before .before .before .before .before .args .room .now) (c .before .loop .i) (c .loop-test .left))
+returns c =
+    let c5 = c .before .before .before .before .before in
+    rw (le-leb _ _ (c .before .before .if1 .taken))
+    (c .before .loop .inv .3 ∙ chars-all (c5 .args .s .now) (c5 .args .room .now) (c .before .loop .i) (c .loop-test .left))
 
 returns-2 : tie.Need-returns-2 Inv-loop μ-loop
 unfolding charsRoom

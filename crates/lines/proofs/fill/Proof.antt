@@ -47,7 +47,15 @@ loop-less : tie.Need-loop-less Inv-loop μ-loop
 loop-less c = omega arith
 
 loop-again : tie.Need-loop-again Inv-loop μ-loop
-loop-again c = (omega arith, length-set (c .before .before .before .before .loop .room) (c .before .before .before .before .loop .i) (c .byte .result) ∙ c .before .before .before .before .loop .inv .1, c .before .before .before .before .loop .inv .2, filled (c .before .before .before .before .before .before .before .args .text .now) (c .before .before .before .before .loop .room) (c .before .before .before .before .loop .i) (c .byte .result) (c .before .before .before .loop-test .taken) (omega arith) (c .byte .ensures) ∙ c .before .before .before .before .loop .inv .3)
+loop-again c =
+    let c4 = c .before .before .before .before in
+    let c7 = c4 .before .before .before in (
+      omega arith,
+      length-set (c4 .loop .room) (c4 .loop .i) (c .byte .result) ∙ c4 .loop .inv .1,
+      c4 .loop .inv .2,
+      filled (c7 .args .text .now) (c4 .loop .room) (c4 .loop .i) (c .byte .result)
+          (c .before .before .before .loop-test .taken) (omega arith) (c .byte .ensures) ∙ c4 .loop .inv .3,
+    )
 
 same-length : tie.Need-same-length Inv-loop μ-loop
 same-length c = c .before .loop .inv .1

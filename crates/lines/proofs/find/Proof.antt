@@ -21,7 +21,10 @@ shared-slice-read-if1 : tie.Need-shared-slice-read-if1 Inv-loop μ-loop
 shared-slice-read-if1 c = omega arith
 
 returns : tie.Need-returns Inv-loop μ-loop
-returns c = sym (seek-here (c .before .before .before .before .args .text .now) (c .before .before .before .loop .i) (c .before .before .before .before .args .b) (c .before .before .loop-test .taken) (c .if1 .taken)) ∙ c .before .before .before .loop .inv
+returns c =
+    let c4 = c .before .before .before .before in
+    sym (seek-here (c4 .args .text .now) (c .before .before .before .loop .i) (c4 .args .b) (c .before .before .loop-test .taken)
+    (c .if1 .taken)) ∙ c .before .before .before .loop .inv
 
 add-i : tie.Need-add-i Inv-loop μ-loop
 add-i c = omega arith
@@ -30,7 +33,10 @@ loop-less : tie.Need-loop-less Inv-loop μ-loop
 loop-less c = omega arith
 
 loop-again : tie.Need-loop-again Inv-loop μ-loop
-loop-again c = sym (seek-next (c .before .before .before .before .args .text .now) (c .before .before .before .loop .i) (c .before .before .before .before .args .b) (c .before .before .loop-test .taken) (c .if1 .left)) ∙ c .before .before .before .loop .inv
+loop-again c =
+    let c4 = c .before .before .before .before in
+    sym (seek-next (c4 .args .text .now) (c .before .before .before .loop .i) (c4 .args .b) (c .before .before .loop-test .taken)
+    (c .if1 .left)) ∙ c .before .before .before .loop .inv
 
 returns-2 : tie.Need-returns-2 Inv-loop μ-loop
 returns-2 c = sym (seek-end (c .before .before .args .text .now) (c .before .loop .i) (c .before .before .args .b) (c .loop-test .left)) ∙ c .before .loop .inv
