@@ -40,7 +40,8 @@ use Rattle.settings.specs.Fields.{three}
 use Rattle.contents.specs.Contents.{rangeStatus, asked, wrappedPart, readData, writeStatus, writtenData}
 use Rattle.selects.specs.Selects.{moved, selectedFile, ofId, byId, byName, selected, piccName, applicationName}
 use Rattle.binaries.specs.Binaries.{mayUse, tapStatus, isoPart, readRange, readBinary, updateRange, updatedBinary}
-use Rattle.tag.specs.Wrapped.{oneOf, formRight, commandData, wrappedCommands, orderStatus, headerLength, byteStatus, frontStatus, own, openingOf, onOpening, fromStep7, onAccess, fromStep5, commanded, wrapped}
+use Rattle.tag.specs.Wrapped.{oneOf, formRight, commandData, wrappedCommands, orderStatus, headerLength, byteStatus, frontStatus, own}
+use Rattle.tag.specs.Wrapped.{openingOf, onOpening, fromStep7, onAccess, fromStep5, commanded, wrapped}
 use Rattle.tag.specs.InterIndustry.{isoForm, fits, dataOf, onFile, isoCommands, isoCommanded, interIndustry}
 use Rattle.tag.specs.Call.{answered}
 use Rattle.series.specs.Series.{accepting}

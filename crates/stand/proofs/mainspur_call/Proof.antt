@@ -21,7 +21,13 @@ same-length-2 : tie.Need-same-length-2
 same-length-2 c = search needs
 
 returns-2 : tie.Need-returns-2
-returns-2 c = let a = c .before .before .before .before .before .before .before .before .before .before .before .before .before .before .before .args in plays (a .state .now) (a .command .now) (a .random .now) (a .room .now) _ _ _ _ (c .before .before .before .before .before .before .before .before .before .before .if1 .left) (ap (λ x. x .tag) (c .before .before .before .before .before .before .before .before .from-image .ensures)) (c .before .before .before .before .answer .ensures)
+returns-2 c =
+    let a = c .before .before .before .before .before .before .before .before .before .before .before .before .before .before .before .args
+    in
+    plays (a .state .now) (a .command .now) (a .random .now) (a .room .now) _ _ _ _
+    (c .before .before .before .before .before .before .before .before .before .before .if1 .left)
+    (ap (λ x. x .tag) (c .before .before .before .before .before .before .before .before .from-image .ensures))
+    (c .before .before .before .before .answer .ensures)
 
 pub mainspur-call-spec : {M : Type 1} → statement M
 mainspur-call-spec =

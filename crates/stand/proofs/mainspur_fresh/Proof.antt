@@ -28,11 +28,21 @@ same-length c = search needs
 
 returns-2 : tie.Need-returns-2
 unfolding makingNumber madeNumber
-returns-2 c = let a = c .before .before .before .before .before .before .before .before .before .before .before .args in makes (a .uid .now) (a .state .now) (c .before .before .before .before .before .before .before .fresh .result) Fresh _ _ (c .before .before .before .before .before .before .before .fresh .ensures .told) (c .before .before .before .before .before .enum-told .given .1) (c .before .before .before .before .before .before .before .before .if1 .left) refl (image-laid _ (a .state .now) _ (c .before .before .before .before .before .before .before .before .if1 .left) (c .before .before .to-image .ensures .1))
+returns-2 c =
+    let a = c .before .before .before .before .before .before .before .before .before .before .before .args in
+    makes (a .uid .now) (a .state .now) (c .before .before .before .before .before .before .before .fresh .result) Fresh _ _
+    (c .before .before .before .before .before .before .before .fresh .ensures .told)
+    (c .before .before .before .before .before .enum-told .given .1)
+    (c .before .before .before .before .before .before .before .before .if1 .left) refl
+    (image-laid _ (a .state .now) _ (c .before .before .before .before .before .before .before .before .if1 .left)
+    (c .before .before .to-image .ensures .1))
 
 returns-3 : tie.Need-returns-3
 unfolding makingNumber madeNumber
-returns-3 c = let a = c .before .before .before .before .before .before .args in makes (a .uid .now) (a .state .now) (c .before .before .fresh .result) WrongUid _ _ (c .before .before .fresh .ensures .told) (c .enum-told2 .given .1) (c .before .before .before .if1 .left) refl refl
+returns-3 c =
+    let a = c .before .before .before .before .before .before .args in
+    makes (a .uid .now) (a .state .now) (c .before .before .fresh .result) WrongUid _ _ (c .before .before .fresh .ensures .told)
+    (c .enum-told2 .given .1) (c .before .before .before .if1 .left) refl refl
 
 pub mainspur-fresh-spec : {M : Type 1} → statement M
 mainspur-fresh-spec =
