@@ -6,7 +6,7 @@ use Prim.Native.Nat.{ℕ}
 use lib.Dec.{eqb}
 use borrow.Author.Tests.{eq-eqb, ne-eqb}
 use Rattle.base.specs.Decide.{pick}
-use Rattle.settings.specs.declared.Reading.{Reading}
+use Rattle.fields.specs.declared.Reading.{Reading}
 use Rattle.mirror.specs.declared.Mirror.{Mirror}
 use Rattle.mirror.specs.declared.Laid.{Laid}
 use Rattle.mirror.specs.Mirrors.{laidOf}

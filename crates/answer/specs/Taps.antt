@@ -5,8 +5,8 @@ use Prim.Native.Nat.{ℕ, _+_}
 use lib.Dec.{eqb, leb, ltb}
 use lib.ListN.{replicate}
 use Rattle.base.specs.Decide.{pick, and}
-use Rattle.settings.specs.declared.Head.{Head}
-use Rattle.settings.specs.declared.Reading.{Reading}
+use Rattle.fields.specs.declared.Head.{Head}
+use Rattle.fields.specs.declared.Reading.{Reading}
 use Rattle.mirror.specs.declared.Mirror.{Mirror}
 use Rattle.mirror.specs.declared.Laid.{Laid}
 use Rattle.mirror.specs.Mirrors.{laidOf}

@@ -5,7 +5,7 @@ use Prim.Native.Nat.{ℕ, _+_, _-_, _%_}
 use lib.Dec.{eqb, leb, ltb}
 use lib.ListN.{length}
 use Rattle.base.specs.Decide.{pick, and}
-use Rattle.settings.specs.declared.Reading.{Reading}
+use Rattle.fields.specs.declared.Reading.{Reading}
 use Rattle.messaging.specs.declared.Mode.{Mode}
 use Rattle.messaging.specs.declared.Mode.the-variants.{Plain, Mac, Full}
 use Rattle.state.specs.declared.Live.{Live}

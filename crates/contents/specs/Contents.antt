@@ -5,8 +5,8 @@ use Prim.Native.Nat.{ℕ, _+_, _-_}
 use lib.Dec.{eqb, leb, ltb}
 use lib.ListN.{length}
 use Rattle.base.specs.Decide.{pick, and, or}
-use Rattle.settings.specs.declared.Reading.{Reading}
-use Rattle.settings.specs.Fields.{three}
+use Rattle.fields.specs.declared.Reading.{Reading}
+use Rattle.fields.specs.Fields.{three}
 use Rattle.messaging.specs.declared.Mode.{Mode}
 use Rattle.state.specs.declared.Tag.{Tag}
 use Rattle.state.specs.State.{sizeOf, readingIn, filed}

@@ -4,12 +4,12 @@ ghost use mathlib.Core.Bool.{not};
 ghost use Prim.Native.Nat.{_+_, _<_, _≤_};
 ghost use lib.Dec.{ltb};
 ghost use Rattle.base.specs.Decide.{and};
-ghost use Rattle.settings.specs.Fields.{three};
+ghost use Rattle.fields.specs.Fields.{three};
 ghost use Rattle.answer.specs.Answer.{Gives};
 ghost use Rattle.contents.specs.Contents.{rangeStatus, asked, wrappedPart, readData, writeStatus, writtenData};
 use answer::Done;
+use fields::Reading;
 use messaging::Mode;
-use settings::Reading;
 use state::Tag;
 
 fn wide(b: u8) -> usize

@@ -1,9 +1,10 @@
 -- Each public function of the floors from base to mirror: its promise, as the source states it, determines the result and the lent room.
-use mathlib.Core.Bool.{Bool}
+use mathlib.Core.Bool.{Bool, not}
 use mathlib.Core.List.{List}
 use mathlib.Core.Path.{_≡_}
 use Prim.Native.Nat.{ℕ, _%_}
 use Rattle.base.specs.Bytes.{byteAt, same, laid}
+use Rattle.base.specs.Decide.{and, or}
 use Rattle.sbox.specs.Tables.{sbox, invSbox}
 use Rattle.sbox.specs.Words.{packed, mixingTable, unmixingTable}
 use Rattle.words.specs.Words.{blockOf, wordsOf, columnOf, pickedOf}
@@ -14,17 +15,18 @@ use Rattle.aes.specs.Cmac.{cmac, evenPlaces, mac}
 use Rattle.key_expansion.specs.Keys.{keyExpansion}
 use Rattle.settings.specs.declared.FileFault.{FileFault}
 use Rattle.settings.specs.declared.Filed.{Filed}
-use Rattle.settings.specs.declared.Head.{Head}
+use Rattle.fields.specs.declared.Head.{Head}
 use Rattle.writing.specs.declared.Normalised.{Normalised}
-use Rattle.settings.specs.declared.Places.{Places}
-use Rattle.settings.specs.declared.Reading.{Reading}
-use Rattle.settings.specs.declared.Settings.{Settings}
+use Rattle.fields.specs.declared.Places.{Places}
+use Rattle.fields.specs.declared.Reading.{Reading}
+use Rattle.fields.specs.declared.Settings.{Settings}
+use Rattle.fields.specs.declared.Span.{Span}
 use Rattle.settings.specs.declared.Status.{Status}
 use Rattle.settings.specs.declared.Told.{Told}
 use Rattle.settings.specs.declared.Verdict.{Verdict}
 use Rattle.writing.specs.declared.Written.{Written}
-use Rattle.settings.specs.Fields.{headOf, readOf, present, listed}
-use Rattle.settings.specs.Spans.{readingOf}
+use Rattle.fields.specs.Fields.{sdmOn, headOf, hasMac, hasEnc, readOf, present, listed, placesIn, sizeOf}
+use Rattle.fields.specs.Spans.{uidSpan, counterSpan, piccSpan, encSpan, macSpan, readingOf, inside, allApart}
 use Rattle.settings.specs.Rules.{meets}
 use Rattle.settings.specs.Filing.{fileFaultWord, fileJudged}
 use Rattle.settings.specs.Answers.{statusWord, judged, readAs}
@@ -120,6 +122,64 @@ cmac-of-determined w s = once
 pub mac-of-determined : (w : List (List ℕ)) (s : List ℕ) → Determined (λ (r : List ℕ). r ≡ evenPlaces (cmac w s))
 mac-of-determined w s = once
 
+-- ---- fields
+pub head-of-determined : (s : List ℕ) → Determined (λ (r : Head). r ≡ headOf s)
+head-of-determined s = once
+
+pub meaning-determined : (s : List ℕ) → Determined (λ (r : Reading). r ≡ readingOf (readOf s))
+meaning-determined s = once
+
+pub present-fields-determined : (h : Head) → Determined (λ (r : List Bool). r ≡ present h)
+present-fields-determined h = once
+
+pub in-order-determined : (p : Places) → Determined (λ (r : List ℕ). r ≡ listed p)
+in-order-determined p = once
+
+pub places-of-determined : (s : List ℕ) (h : Head) → Determined (λ (r : Places). r ≡ placesIn s h)
+places-of-determined s h = once
+
+pub size-of-determined : (h : Head) → Determined (λ (r : ℕ). r ≡ sizeOf h)
+size-of-determined h = once
+
+pub has-enc-determined : (h : Head) → Determined (λ (r : Bool). r ≡ hasEnc h)
+has-enc-determined h = once
+
+pub has-mac-determined : (h : Head) → Determined (λ (r : Bool). r ≡ hasMac h)
+has-mac-determined h = once
+
+pub sdm-on-determined : (s : List ℕ) → Determined (λ (r : Bool). r ≡ sdmOn s)
+sdm-on-determined s = once
+
+pub all-apart-determined : (spans : List Span) → Determined (λ (r : Bool). r ≡ allApart spans)
+all-apart-determined spans = once
+
+pub is-inside-determined : (a : Span) → Determined (λ (r : Bool). r ≡ inside a)
+is-inside-determined a = once
+
+pub uid-span-determined : (r : Settings) → Determined (λ (x : Span). x ≡ uidSpan r)
+uid-span-determined r = once
+
+pub counter-span-determined : (r : Settings) → Determined (λ (x : Span). x ≡ counterSpan r)
+counter-span-determined r = once
+
+pub picc-span-determined : (r : Settings) → Determined (λ (x : Span). x ≡ piccSpan r)
+picc-span-determined r = once
+
+pub enc-span-determined : (r : Settings) → Determined (λ (x : Span). x ≡ encSpan r)
+enc-span-determined r = once
+
+pub mac-span-determined : (r : Settings) → Determined (λ (x : Span). x ≡ macSpan r)
+mac-span-determined r = once
+
+pub both-determined : (a b : Bool) → Determined (λ (r : Bool). r ≡ and a b)
+both-determined a b = once
+
+pub either-determined : (a b : Bool) → Determined (λ (r : Bool). r ≡ or a b)
+either-determined a b = once
+
+pub negate-determined : (a : Bool) → Determined (λ (r : Bool). r ≡ not a)
+negate-determined a = once
+
 -- ---- settings
 pub status-word-determined : (s : Status) → Determined (λ (r : ℕ). r ≡ statusWord s)
 status-word-determined s = once
@@ -127,20 +187,8 @@ status-word-determined s = once
 pub judge-determined : (file : ℕ) (s : List ℕ) → Determined (λ (r : Verdict). r ≡ judged file s)
 judge-determined file s = once
 
-pub head-of-determined : (s : List ℕ) → Determined (λ (r : Head). r ≡ headOf s)
-head-of-determined s = once
-
-pub meaning-determined : (s : List ℕ) → Determined (λ (r : Reading). r ≡ readingOf (readOf s))
-meaning-determined s = once
-
 pub read-determined : (file : ℕ) (s : List ℕ) → Determined (λ (r : Told). r ≡ readAs (judged file s) s)
 read-determined file s = once
-
-pub present-fields-determined : (h : Head) → Determined (λ (r : List Bool). r ≡ present h)
-present-fields-determined h = once
-
-pub in-order-determined : (p : Places) → Determined (λ (r : List ℕ). r ≡ listed p)
-in-order-determined p = once
 
 pub file-fault-word-determined : (f : FileFault) → Determined (λ (r : ℕ). r ≡ fileFaultWord f)
 file-fault-word-determined f = once

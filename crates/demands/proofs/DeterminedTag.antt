@@ -8,8 +8,8 @@ use lib.Dec.{leb}
 use lib.ListN.{take}
 use Rattle.base.specs.Decide.{pick}
 use Rattle.base.specs.Bytes.{byteAt}
-use Rattle.settings.specs.declared.Head.{Head}
-use Rattle.settings.specs.declared.Reading.{Reading}
+use Rattle.fields.specs.declared.Head.{Head}
+use Rattle.fields.specs.declared.Reading.{Reading}
 use Rattle.messaging.specs.declared.Mode.{Mode}
 use Rattle.messaging.specs.declared.Session.{Session}
 use Rattle.state.specs.declared.Access.{Access}

@@ -17,7 +17,7 @@ use Rattle.messaging.specs.declared.Mode.the-variants.{Plain}
 use Rattle.messaging.specs.Protect.{signed, sent}
 use Rattle.messaging.specs.Reply.{closed, closedLength, overlong}
 use Rattle.settings.specs.declared.Verdict.the-variants.{Good}
-use Rattle.settings.specs.Normal.{normal}
+use Rattle.fields.specs.Normal.{normal}
 use Rattle.meanings.proofs.NormalForm.{normal-length}
 use Rattle.meanings.proofs.Mirrors.{good-length}
 use Rattle.state.specs.declared.Access.the-variants.{In}

@@ -22,11 +22,11 @@ use Rattle.messaging.specs.Protect.{messageMac, sent, signed, plain}
 use Rattle.messaging.specs.Command.{sentCommand, opening}
 use Rattle.messaging.specs.Reply.{closed, overlong}
 use Rattle.both_ends.proofs.Messages.{sent-command-opens}
-use Rattle.settings.specs.declared.Head.{Head}
-use Rattle.settings.specs.declared.Settings.{Settings}
+use Rattle.fields.specs.declared.Head.{Head}
+use Rattle.fields.specs.declared.Settings.{Settings}
 use Rattle.settings.specs.declared.Verdict.the-variants.{Good}
 use Rattle.settings.specs.Answers.{judged}
-use Rattle.settings.specs.Fields.{readOf, stringOf}
+use Rattle.fields.specs.Fields.{readOf, stringOf}
 use Rattle.settings.specs.Rules.{meets}
 use Rattle.meanings.proofs.Mirrors.{good-length}
 use Rattle.meanings.proofs.OneMeaning.{one-string, string-bytes}

@@ -15,7 +15,7 @@ use Rattle.messaging.specs.declared.Opened.the-variants.{WrongLength, WrongMac,
 use Rattle.messaging.specs.Protect.{Opening, plain, wrongLength, wrongMac, wrongPadding}
 use Rattle.messaging.specs.Command.{openedStatus}
 use Rattle.messaging.specs.Reply.{overlong, closedStatus}
-use Rattle.settings.specs.Normal.{normal}
+use Rattle.fields.specs.Normal.{normal}
 use Rattle.state.specs.declared.Tag.{Tag}
 use Rattle.state.specs.State.{sizeOf, rulesOf}
 use Rattle.state.specs.Access.{accessFor}

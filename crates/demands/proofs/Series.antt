@@ -13,7 +13,7 @@ use Rattle.base.specs.Bytes.{byteAt}
 use Rattle.base.proofs.Bytes.{le-or-lt}
 use Rattle.messaging.specs.declared.Mode.{Mode}
 use Rattle.messaging.specs.Reply.{overlong}
-use Rattle.settings.specs.Normal.{normal}
+use Rattle.fields.specs.Normal.{normal}
 use Rattle.state.specs.declared.Files.{Files}
 use Rattle.state.specs.declared.Tag.{Tag}
 use Rattle.state.specs.State.{slotOf, rulesOf, readingIn, endedOf, filed, keyed, placed, talking, tapped}

@@ -12,9 +12,9 @@ use Rattle.messaging.specs.declared.Mode.the-variants.{Plain, Full}
 use Rattle.messaging.specs.Protect.{messageMac}
 use Rattle.messaging.specs.Command.{sentCommand}
 use Rattle.messaging.specs.Reply.{closed}
-use Rattle.settings.specs.declared.Settings.{Settings}
-use Rattle.settings.specs.Fields.{readOf, stringOf}
-use Rattle.settings.specs.Normal.{normal}
+use Rattle.fields.specs.declared.Settings.{Settings}
+use Rattle.fields.specs.Fields.{readOf, stringOf}
+use Rattle.fields.specs.Normal.{normal}
 use Rattle.meanings.specs.Meaning.{OneString}
 use Rattle.state.specs.declared.Access.the-variants.{In}
 use Rattle.state.specs.declared.Tag.{Tag}

@@ -4,7 +4,7 @@ use mathlib.Core.List.{List, [], _∷_, _++_}
 use mathlib.Core.Path.{_≡_}
 use Prim.Native.Nat.{ℕ}
 use lib.ListN.{replicate}
-use Rattle.settings.specs.Normal.{normal}
+use Rattle.fields.specs.Normal.{normal}
 use Rattle.state.specs.declared.Tag.{Tag}
 use Rattle.state.specs.State.{rulesOf, endedOf}
 use Rattle.state.specs.Fresh.{freshTag}

@@ -11,7 +11,7 @@ use Rattle.messaging.specs.declared.Mode.{Mode}
 use Rattle.messaging.specs.declared.Mode.the-variants.{Plain, Mac}
 use Rattle.messaging.specs.Reply.{closed}
 use Rattle.messaging.specs.Protect.{Opening, plain, wrongLength, wrongMac, wrongPadding}
-use Rattle.settings.specs.Normal.{normal}
+use Rattle.fields.specs.Normal.{normal}
 use Rattle.state.specs.declared.Access.{Access}
 use Rattle.state.specs.declared.Access.the-variants.{In, Never, Denied}
 use Rattle.state.specs.declared.Tag.{Tag}

@@ -19,7 +19,7 @@ use Rattle.writing.specs.declared.Normalised.the-variants.{Normal, BadFile, Bad
 use Rattle.settings.specs.Answers.{judged, statusWord}
 use Rattle.writing.specs.Answers.{normalised}
 use Rattle.settings.specs.Filing.{fileFaultWord}
-use Rattle.settings.specs.Normal.{normal}
+use Rattle.fields.specs.Normal.{normal}
 use Rattle.meanings.proofs.NormalForm.{normal-length}
 use Rattle.meanings.proofs.Mirrors.{good-length}
 use Rattle.state.specs.declared.Files.{Files}

@@ -8,9 +8,9 @@ use lib.Dec.{eqb, leb}
 use borrow.Author.Tests.{leb-true, eqb-true, eq-eqb, ne-eqb}
 use Rattle.base.specs.Decide.{pick, and, or}
 use Rattle.base.proofs.Bytes.{le-or-lt, and-left, and-right}
-use Rattle.settings.specs.Fields.{bit, one, modeOf}
+use Rattle.fields.specs.Fields.{bit, one, modeOf}
 use Rattle.settings.specs.Rules.{optionBits, sdmOptionsBits, modes}
-use Rattle.settings.specs.Normal.{plainMode}
+use Rattle.fields.specs.Normal.{plainMode}
 use Rattle.writing.proofs.Small.{or-true, mode-small}
 
 -- ---- a flag and its bit

@@ -1,14 +1,14 @@
 -- 01's examples of settings strings, for file 2.
 use mathlib.Core.Path.{refl}
 use Rattle.base.specs.Bytes.{number}
-use Rattle.settings.specs.Fields.{sdmOn, sdmByte, modeOf, headOf, hasUid, hasCounter, hasPicc, hasMac, hasEnc}
-use Rattle.settings.specs.Fields.{present, three, fields, ends, placesOf, placesIn, sizeOf}
-use Rattle.settings.specs.Spans.{span, uidSpan, counterSpan, piccSpan, encSpan, macSpan, spansOf, inside, apart, apartFrom, allApart}
+use Rattle.fields.specs.Fields.{sdmOn, sdmByte, modeOf, headOf, hasUid, hasCounter, hasPicc, hasMac, hasEnc}
+use Rattle.fields.specs.Fields.{present, three, fields, ends, placesOf, placesIn, sizeOf}
+use Rattle.fields.specs.Spans.{span, uidSpan, counterSpan, piccSpan, encSpan, macSpan, spansOf, inside, apart, apartFrom, allApart}
 use Rattle.settings.specs.Rules.{found, optionBits, sdmFile, condition, rights, sdmOptionsBits, sdmRights}
 use Rattle.settings.specs.Rules.{metaMirrors, metaOff, encNeeds, encSize, macInput, encBetween}
 use Rattle.settings.specs.Rules.{positionRules, sdmRules, restRules, rules}
 use Rattle.meanings.specs.Worked.{example, Shown}
-use Rattle.settings.specs.Normal.{plainMode, freeBits, normal}
+use Rattle.fields.specs.Normal.{plainMode, freeBits, normal}
 use Rattle.settings.specs.Answers.{verdictOf, judged}
 
 pub shown : Shown

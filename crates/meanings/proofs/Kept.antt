@@ -9,8 +9,8 @@ use lib.ListN.{length}
 use borrow.Author.Tests.{leb-true, eqb-true}
 use Rattle.base.specs.Decide.{pick, or}
 use Rattle.base.specs.Bytes.{byteAt}
-use Rattle.settings.specs.declared.Head.{Head}
-use Rattle.settings.specs.declared.Settings.{Settings}
+use Rattle.fields.specs.declared.Head.{Head}
+use Rattle.fields.specs.declared.Settings.{Settings}
 use Rattle.settings.specs.declared.Part.{Part}
 use Rattle.settings.specs.declared.Check.{Check}
 use Rattle.settings.specs.declared.Finding.{Finding}
@@ -23,8 +23,8 @@ use Rattle.settings.specs.declared.Check.the-variants.{Shared, MacInput, EncBet
 use Rattle.settings.specs.declared.FileFault.the-variants.{OverThirtyOne, NoSuchFile}
 use Rattle.settings.specs.declared.Verdict.{Verdict}
 use Rattle.settings.specs.declared.Verdict.the-variants.{Good, WrongFile}
-use Rattle.settings.specs.Fields.{sdmOn, headOf, placesIn, sizeOf}
-use Rattle.settings.specs.Spans.{uidSpan, counterSpan, piccSpan, encSpan, macSpan, spansOf, inside, allApart}
+use Rattle.fields.specs.Fields.{sdmOn, headOf, placesIn, sizeOf}
+use Rattle.fields.specs.Spans.{uidSpan, counterSpan, piccSpan, encSpan, macSpan, spansOf, inside, allApart}
 use Rattle.settings.specs.Rules.{Rule, there, right, found, kept, optionBits, sdmFile, rights, sdmOptionsBits, sdmRights}
 use Rattle.settings.specs.Rules.{metaMirrors, metaOff, encNeeds, encSize, macInput, encBetween}
 use Rattle.settings.specs.Rules.{positionRules, sdmRules, restRules, rules}

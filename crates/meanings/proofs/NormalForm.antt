@@ -12,11 +12,11 @@ use borrow.Author.Tests.{eq-eqb, ne-eqb}
 use Rattle.base.specs.Decide.{pick, and}
 use Rattle.base.specs.Bytes.{byteAt}
 use Rattle.base.proofs.Bytes.{le-or-lt}
-use Rattle.settings.specs.declared.Head.{Head}
+use Rattle.fields.specs.declared.Head.{Head}
 use Rattle.settings.specs.declared.Verdict.the-variants.{Good, WrongFile}
-use Rattle.settings.specs.Fields.{bit, sdmOn, sdmByte, modeOf, headOf, present, three, after, fields, placesIn, placesOf, readOf}
+use Rattle.fields.specs.Fields.{bit, sdmOn, sdmByte, modeOf, headOf, present, three, after, fields, placesIn, placesOf, readOf}
 use Rattle.settings.specs.Rules.{found, optionBits, sdmRules, restRules, rules}
-use Rattle.settings.specs.Normal.{plainMode, freeBits, normal}
+use Rattle.fields.specs.Normal.{plainMode, freeBits, normal}
 use Rattle.settings.specs.Filing.{byFault}
 use Rattle.settings.specs.Answers.{verdictOf, judged}
 

@@ -10,8 +10,8 @@ use borrow.Author.Tests.{le-leb, eq-eqb}
 use Rattle.base.specs.Decide.{pick, and}
 use Rattle.base.specs.Bytes.{byteAt, AllBytes, low}
 use Rattle.base.proofs.Numbers.{low-bytes}
-use Rattle.settings.specs.declared.Head.{Head}
-use Rattle.settings.specs.declared.Settings.{Settings}
+use Rattle.fields.specs.declared.Head.{Head}
+use Rattle.fields.specs.declared.Settings.{Settings}
 use Rattle.settings.specs.declared.Part.{Part}
 use Rattle.settings.specs.declared.Check.{Check}
 use Rattle.settings.specs.declared.Part.the-variants.{OptionByte, RightsBytes, SdmOptionsByte, SdmRightsBytes, Whole}
@@ -19,10 +19,10 @@ use Rattle.settings.specs.declared.Check.the-variants.{OptionBits, SdmFile, Rig
 use Rattle.settings.specs.declared.Verdict.the-variants.{Good}
 use Rattle.settings.specs.declared.Finding.{Finding}
 use Rattle.settings.specs.declared.Finding.the-variants.{Kept}
-use Rattle.settings.specs.Fields.{sdmOn, headOf, present, written, listed, readOf, sizeOf, frontBytes, sdmBytes, stringOf}
+use Rattle.fields.specs.Fields.{sdmOn, headOf, present, written, listed, readOf, sizeOf, frontBytes, sdmBytes, stringOf}
 use Rattle.settings.specs.Rules.{Rule, there, right, found, kept, optionBits, sdmFile, rights, sdmOptionsBits, sdmRights}
 use Rattle.settings.specs.Rules.{positionRules, sdmRules, restRules, rules, fieldsFit, sdmMeets, sdmAbsent, sdmPart, modes, meets}
-use Rattle.settings.specs.Normal.{normal}
+use Rattle.fields.specs.Normal.{normal}
 use Rattle.settings.specs.Answers.{judged}
 use Rattle.meanings.specs.Meaning.{OneString, SameMeaning}
 use Rattle.meanings.proofs.Bits.{one-small, mode-is, option-good, packed-good}

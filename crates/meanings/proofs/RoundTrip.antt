@@ -11,14 +11,14 @@ use borrow.Author.Tests.{eqb-true, not-true}
 use Rattle.base.specs.Decide.{pick, and, or}
 use Rattle.base.specs.Bytes.{byteAt, AllBytes}
 use Rattle.base.proofs.Bytes.{and-left, and-right}
-use Rattle.settings.specs.declared.Head.{Head}
-use Rattle.settings.specs.declared.Places.{Places}
-use Rattle.settings.specs.declared.Settings.{Settings}
+use Rattle.fields.specs.declared.Head.{Head}
+use Rattle.fields.specs.declared.Places.{Places}
+use Rattle.fields.specs.declared.Settings.{Settings}
 use Rattle.settings.specs.declared.Verdict.the-variants.{Good}
-use Rattle.settings.specs.Fields.{bit, sdmOn, sdmByte, modeOf, headOf, hasUid, hasCounter, hasPicc, hasMac, hasEnc}
-use Rattle.settings.specs.Fields.{present, fields, ends, written, placesOf, listed, placesIn, readOf, sizeOf, frontBytes, sdmBytes, stringOf}
+use Rattle.fields.specs.Fields.{bit, sdmOn, sdmByte, modeOf, headOf, hasUid, hasCounter, hasPicc, hasMac, hasEnc}
+use Rattle.fields.specs.Fields.{present, fields, ends, written, placesOf, listed, placesIn, readOf, sizeOf, frontBytes, sdmBytes, stringOf}
 use Rattle.settings.specs.Rules.{optionBits, rights, sdmOptionsBits, sdmRights, fieldFits, fieldsFit, sdmMeets, sdmAbsent, sdmPart, modes, meets}
-use Rattle.settings.specs.Normal.{plainMode, freeBits, normal}
+use Rattle.fields.specs.Normal.{plainMode, freeBits, normal}
 use Rattle.settings.specs.Answers.{judged}
 use Rattle.meanings.proofs.Bits.{mode-read, sdm-read, option-back, options-back, packed-7, packed-6, packed-5, packed-4}
 use Rattle.meanings.proofs.Kept.{front-kept, sdm-kept, off-size}

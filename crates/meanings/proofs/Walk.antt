@@ -12,7 +12,7 @@ use borrow.Author.Tests.{ltb-true, eqb-true, lt-ltb}
 use Rattle.base.specs.Bytes.{byteAt, AllBytes, number, low}
 use Rattle.base.proofs.Bytes.{and-left, and-right}
 use Rattle.base.proofs.Numbers.{number-low, low-number, low-length}
-use Rattle.settings.specs.Fields.{after, three, fields, ends, written}
+use Rattle.fields.specs.Fields.{after, three, fields, ends, written}
 use Rattle.settings.specs.Rules.{fieldFits, fieldsFit}
 
 -- ---- reading what was written

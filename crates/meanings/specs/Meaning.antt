@@ -3,10 +3,10 @@ use mathlib.Core.Path.{_≡_}
 use mathlib.Core.List.{List}
 use Prim.Native.Nat.{ℕ}
 use Rattle.base.specs.Bytes.{AllBytes}
-use Rattle.settings.specs.declared.Settings.{Settings}
+use Rattle.fields.specs.declared.Settings.{Settings}
 use Rattle.settings.specs.declared.Verdict.the-variants.{Good}
-use Rattle.settings.specs.Fields.{readOf}
-use Rattle.settings.specs.Normal.{normal}
+use Rattle.fields.specs.Fields.{readOf}
+use Rattle.fields.specs.Normal.{normal}
 use Rattle.settings.specs.Answers.{judged}
 
 -- Every record that meets the rules has exactly one normal string, and reading it gives the record back

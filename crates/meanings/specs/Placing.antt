@@ -3,10 +3,10 @@ use mathlib.Core.Path.{_≡_}
 use mathlib.Core.Bool.{true, false}
 use Prim.Native.Nat.{ℕ, _+_, _%_, _≤_, _<_}
 use lib.ListN.{getD}
-use Rattle.settings.specs.declared.Settings.{Settings}
-use Rattle.settings.specs.declared.Span.{Span}
-use Rattle.settings.specs.Fields.{hasMac, hasEnc}
-use Rattle.settings.specs.Spans.{spansOf, endOf, Inside, Disjoint}
+use Rattle.fields.specs.declared.Settings.{Settings}
+use Rattle.fields.specs.declared.Span.{Span}
+use Rattle.fields.specs.Fields.{hasMac, hasEnc}
+use Rattle.fields.specs.Spans.{spansOf, endOf, Inside, Disjoint}
 
 -- no span
 abbrev pub none : Span

@@ -4,7 +4,7 @@ use mathlib.Core.List.{List, [], _∷_}
 use Prim.Native.Nat.{ℕ}
 use Rattle.settings.specs.declared.Verdict.the-variants.{Good, Refused}
 use Rattle.settings.specs.declared.Status.the-variants.{ParameterError}
-use Rattle.settings.specs.Normal.{normal}
+use Rattle.fields.specs.Normal.{normal}
 use Rattle.settings.specs.Answers.{judged}
 
 -- 4000E0C1F121200000430000430000 with the MAC input start and the MAC offset given: PICCData from 32 to 63

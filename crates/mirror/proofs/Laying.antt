@@ -12,8 +12,8 @@ use Rattle.base.specs.Bytes.{laid, over}
 use Rattle.base.proofs.Bytes.{laid-not}
 use Rattle.lines.specs.Hex.{charsOf, charsRoom}
 use Rattle.aes.specs.Cbc.{across, sealed, cbcOut}
-use Rattle.settings.specs.declared.Span.{Span}
-use Rattle.settings.specs.declared.Reading.{Reading}
+use Rattle.fields.specs.declared.Span.{Span}
+use Rattle.fields.specs.declared.Reading.{Reading}
 use Rattle.mirror.specs.declared.Mirror.{Mirror}
 use Rattle.mirror.specs.Mirrors.{mirrorAt, stretch, withEnc, withMac}
 

@@ -10,9 +10,9 @@ use Rattle.aes.specs.Cbc.{cbcOut}
 use Rattle.key_expansion.specs.Keys.{keyExpansion}
 use Rattle.aes.specs.Cmac.{mac}
 use Rattle.sdm.specs.Tap.{piccData, tapKeys, tapIv}
-use Rattle.settings.specs.Spans.{inside}
-use Rattle.settings.specs.declared.Span.{Span}
-use Rattle.settings.specs.declared.Reading.{Reading}
+use Rattle.fields.specs.Spans.{inside}
+use Rattle.fields.specs.declared.Span.{Span}
+use Rattle.fields.specs.declared.Reading.{Reading}
 use Rattle.mirror.specs.declared.Laid.{Laid}
 use Rattle.mirror.specs.declared.Mirror.{Mirror}
 

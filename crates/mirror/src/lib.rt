@@ -8,11 +8,11 @@ ghost use Rattle.aes.specs.Cbc.{cbcOut};
 ghost use Rattle.key_expansion.specs.Keys.{keyExpansion};
 ghost use Rattle.aes.specs.Cmac.{mac};
 ghost use Rattle.sdm.specs.Tap.{tapIv};
-ghost use Rattle.settings.specs.Spans.{endOf, inside};
+ghost use Rattle.fields.specs.Spans.{endOf, inside};
 ghost use Rattle.mirror.specs.Mirrors.{mirrorAt, stretch, highFirst, withUid, withCounter, withPicc, encData, withEnc, withMac, dynamicData, allInside, laidOf};
+use fields::Reading;
+use fields::Span;
 use sdm::Tap;
-use settings::Reading;
-use settings::Span;
 
 // File 2 as a tap shows it, or as it was where a span does not end inside it.
 pub struct Laid {

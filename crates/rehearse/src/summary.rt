@@ -1,9 +1,9 @@
 // What the tag is at the end.
 use crate::show::say;
 use crate::show::say_number;
-use settings::Head;
-use settings::Places;
-use settings::Reading;
+use fields::Head;
+use fields::Places;
+use fields::Reading;
 use state::Files;
 use state::Live;
 use state::Pending;

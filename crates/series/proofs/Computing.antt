@@ -4,11 +4,11 @@ use Rattle.base.specs.Bytes.{same, laid, number, low}
 use Rattle.messaging.specs.Protect.{content, signed, sent, macRight}
 use Rattle.messaging.specs.Command.{partRight, lengthRight, checked, opening, openedStatus}
 use Rattle.messaging.specs.Reply.{closed, closedLength, overlong}
-use Rattle.settings.specs.Fields.{sdmOn, sdmByte, modeOf, headOf, hasUid, hasCounter, hasPicc, hasMac, hasEnc, present}
-use Rattle.settings.specs.Fields.{three, fields, ends, placesOf, placesIn, sizeOf, readOf}
-use Rattle.settings.specs.Spans.{span, uidSpan, counterSpan, piccSpan, encSpan, macSpan, readingOf}
+use Rattle.fields.specs.Fields.{sdmOn, sdmByte, modeOf, headOf, hasUid, hasCounter, hasPicc, hasMac, hasEnc, present}
+use Rattle.fields.specs.Fields.{three, fields, ends, placesOf, placesIn, sizeOf, readOf}
+use Rattle.fields.specs.Spans.{span, uidSpan, counterSpan, piccSpan, encSpan, macSpan, readingOf}
 use Rattle.settings.specs.Rules.{found, optionBits, sdmFile, condition, rights, restRules, rules}
-use Rattle.settings.specs.Normal.{plainMode, freeBits, normal}
+use Rattle.fields.specs.Normal.{plainMode, freeBits, normal}
 use Rattle.settings.specs.Filing.{fileStatus}
 use Rattle.settings.specs.Answers.{verdictOf, judged, statusWord}
 use Rattle.state.specs.State.{startOf, sizeOf as fileSize, fileOf, slotOf, rulesOf, readingIn, noLive, noPending, quieted, endedOf, placed, talking, tapped, filed}

@@ -12,13 +12,13 @@ use Rattle.base.specs.Decide.{pick, and, or}
 use Rattle.base.specs.Bytes.{byteAt}
 use Rattle.base.proofs.Bytes.{and-left, and-right, laid-length, same-refl}
 use Rattle.messaging.specs.declared.Mode.{Mode}
-use Rattle.settings.specs.declared.Reading.{Reading}
+use Rattle.fields.specs.declared.Reading.{Reading}
 use Rattle.settings.specs.declared.Verdict.{Verdict}
 use Rattle.settings.specs.declared.Verdict.the-variants.{Good, Refused, WrongFile}
 use Rattle.settings.specs.Answers.{judged}
-use Rattle.settings.specs.Normal.{normal}
-use Rattle.settings.specs.Fields.{readOf, headOf, sdmOn}
-use Rattle.settings.specs.Spans.{readingOf}
+use Rattle.fields.specs.Normal.{normal}
+use Rattle.fields.specs.Fields.{readOf, headOf, sdmOn}
+use Rattle.fields.specs.Spans.{readingOf}
 use Rattle.settings.specs.Rules.{sdmFile}
 use Rattle.meanings.proofs.Kept.{front-kept}
 use Rattle.meanings.proofs.NormalForm.{normal-length, normal-twice, normal-good}

@@ -21,7 +21,7 @@ use Rattle.messaging.specs.Command.{openedStatus}
 use Rattle.settings.specs.declared.Verdict.{Verdict}
 use Rattle.settings.specs.declared.Verdict.the-variants.{Good, Refused, WrongFile}
 use Rattle.settings.specs.Answers.{judged, statusWord}
-use Rattle.settings.specs.declared.Head.{Head}
+use Rattle.fields.specs.declared.Head.{Head}
 use Rattle.state.specs.declared.Access.{Access}
 use Rattle.state.specs.declared.Access.the-variants.{In, Never, Denied}
 use Rattle.state.specs.declared.Pending.{Pending}
@@ -36,7 +36,7 @@ use Rattle.auth.specs.Parts.{keyStatus, valuesStatus, firstStatus, nextStatus, 
 use Rattle.keyring.specs.Keyring.{newKey, changeStatus, withKey, changedKey, keyVersion}
 use Rattle.details.specs.Details.{cardUid, fileSettings, changedSettings, byVerdict, fileCounters}
 use Rattle.settings.specs.Filing.{fileFaultWord}
-use Rattle.settings.specs.Fields.{three}
+use Rattle.fields.specs.Fields.{three}
 use Rattle.contents.specs.Contents.{rangeStatus, asked, wrappedPart, readData, writeStatus, writtenData}
 use Rattle.selects.specs.Selects.{moved, selectedFile, ofId, byId, byName, selected, piccName, applicationName}
 use Rattle.binaries.specs.Binaries.{mayUse, tapStatus, isoPart, readRange, readBinary, updateRange, updatedBinary}

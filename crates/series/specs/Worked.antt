@@ -4,7 +4,7 @@ use mathlib.Core.Path.{_≡_}
 use Prim.Native.Nat.{ℕ}
 use Rattle.settings.specs.declared.Verdict.the-variants.{Good, Refused}
 use Rattle.settings.specs.declared.Status.the-variants.{ParameterError}
-use Rattle.settings.specs.Normal.{normal}
+use Rattle.fields.specs.Normal.{normal}
 use Rattle.settings.specs.Answers.{judged}
 use Rattle.meanings.specs.Worked.{example}
 use Rattle.state.specs.declared.Tag.{Tag}

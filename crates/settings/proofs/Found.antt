@@ -1,20 +1,13 @@
 -- What a test in the code says of the rule that it computes.
-use mathlib.Core.Path.{_≡_, refl, sym, ap₂, _∙_}
-use mathlib.Core.Bool.{Bool, true, false, not}
+use mathlib.Core.Path.{_≡_, refl, ap₂, _∙_}
+use mathlib.Core.Bool.{Bool}
 use mathlib.Core.List.{List, [], _∷_}
-use borrow.Author.Tests.{not-true, not-false}
 use Rattle.base.specs.Decide.{pick}
 use Rattle.settings.specs.declared.Part.{Part}
 use Rattle.settings.specs.declared.Check.{Check}
 use Rattle.settings.specs.declared.Finding.{Finding}
 use Rattle.settings.specs.declared.Finding.the-variants.{Kept, Missing, Wrong}
 use Rattle.settings.specs.Rules.{Rule, there, right, found}
-
-pub on : {b t : Bool} → b ≡ t → not b ≡ false → t ≡ true
-on {b} e h = sym e ∙ not-false b h
-
-pub off : {b t : Bool} → b ≡ t → not b ≡ true → t ≡ false
-off {b} e h = sym e ∙ not-true b h
 
 -- a finding is the first rule of a list that does not hold
 pub record Finds (f : Finding) (rs : List Rule) : Type 0 where

@@ -1,4 +1,3 @@
-pub mod Cursor
 pub mod Filing
+pub mod Fitting
 pub mod Found
-pub mod Pairs

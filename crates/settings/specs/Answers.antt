@@ -9,8 +9,8 @@ use Rattle.settings.specs.declared.Finding.{Finding}
 use Rattle.settings.specs.declared.Finding.the-variants.{Kept, Missing, Wrong}
 use Rattle.settings.specs.declared.Told.{Told}
 use Rattle.settings.specs.declared.Told.the-variants.{Means, Unread, UnreadFile}
-use Rattle.settings.specs.Fields.{readOf}
-use Rattle.settings.specs.Spans.{readingOf}
+use Rattle.fields.specs.Fields.{readOf}
+use Rattle.fields.specs.Spans.{readingOf}
 use Rattle.settings.specs.Rules.{rules, found}
 use Rattle.settings.specs.Filing.{byFault, fileFaultWord}
 

@@ -7,8 +7,8 @@ use lib.Dec.{eqb, leb, ltb}
 use lib.ListN.{length}
 use Rattle.base.specs.Decide.{pick, and, or}
 use Rattle.base.specs.Bytes.{byteAt}
-use Rattle.settings.specs.declared.Head.{Head}
-use Rattle.settings.specs.declared.Settings.{Settings}
+use Rattle.fields.specs.declared.Head.{Head}
+use Rattle.fields.specs.declared.Settings.{Settings}
 use Rattle.settings.specs.declared.Part.{Part}
 use Rattle.settings.specs.declared.Part.the-variants.{OptionByte, RightsBytes, SdmOptionsByte, SdmRightsBytes, Whole}
 use Rattle.settings.specs.declared.Check.{Check}
@@ -18,8 +18,8 @@ use Rattle.settings.specs.declared.Check.the-variants.{UidInside, Counte
 use Rattle.settings.specs.declared.Check.the-variants.{Shared, MacInput, EncBetween}
 use Rattle.settings.specs.declared.Finding.{Finding}
 use Rattle.settings.specs.declared.Finding.the-variants.{Kept, Missing, Wrong}
-use Rattle.settings.specs.Fields.{sdmOn, headOf, hasMac, hasEnc, present, listed, placesIn, sizeOf}
-use Rattle.settings.specs.Spans.{uidSpan, counterSpan, piccSpan, encSpan, macSpan, spansOf, inside, allApart}
+use Rattle.fields.specs.Fields.{sdmOn, headOf, hasMac, hasEnc, present, listed, placesIn, sizeOf}
+use Rattle.fields.specs.Spans.{uidSpan, counterSpan, piccSpan, encSpan, macSpan, spansOf, inside, allApart}
 
 -- A rule: a part that must be there whole, or a test that must hold
 pub record Rule : Type 0 where

@@ -1,74 +1,13 @@
-// Settings strings (Tables 69 and 73): judged and read, without any cryptography.
+// Settings strings (Tables 69 and 73) judged, and good ones read, without any cryptography.
 ghost use mathlib.Core.Path.{_≡_};
-ghost use Rattle.settings.specs.Fields.{readOf};
-ghost use Rattle.settings.specs.Spans.{readingOf};
 ghost use Rattle.settings.specs.Filing.{fileFaultWord, fileJudged};
 ghost use Rattle.settings.specs.Answers.{statusWord, judged, readAs};
 
-mod fields;
-mod front;
+mod fits;
 mod rules;
-mod spans;
-mod truth;
 
-pub use fields::in_order;
-pub use front::head as head_of;
-pub use front::present_fields;
+use fields::Reading;
 pub use rules::record_meets as meets;
-
-// The fields in front: CommMode (0 Plain, 1 MAC, 3 Full), the rights Read, Write, ReadWrite and Change, SDM, the four
-// options, SDMMetaRead, SDMFileRead and SDMCtrRet. With SDM off the parts of SDM are 0.
-pub struct Head {
-    pub mode: u8,
-    pub read: u8,
-    pub write: u8,
-    pub both: u8,
-    pub change: u8,
-    pub sdm: bool,
-    pub uid: bool,
-    pub counter: bool,
-    pub limit: bool,
-    pub enc: bool,
-    pub meta: u8,
-    pub file: u8,
-    pub ret: u8,
-}
-
-// The fields behind, 0 where not there: UIDOffset, SDMReadCtrOffset, PICCDataOffset, SDMMACInputOffset, SDMENCOffset,
-// SDMENCLength, SDMMACOffset, SDMReadCtrLimit.
-pub struct Places {
-    pub uid: u32,
-    pub counter: u32,
-    pub picc: u32,
-    pub input: u32,
-    pub enc: u32,
-    pub size: u32,
-    pub mac: u32,
-    pub limit: u32,
-}
-
-// What a string means.
-pub struct Settings {
-    pub head: Head,
-    pub places: Places,
-}
-
-// Bytes of the file that a mirror takes; one that is not there starts at 0 and has none.
-pub struct Span {
-    pub present: bool,
-    pub start: u32,
-    pub size: u32,
-}
-
-// What a string means, with the spans of its mirrors.
-pub struct Reading {
-    pub settings: Settings,
-    pub uid: Span,
-    pub counter: Span,
-    pub picc: Span,
-    pub enc: Span,
-    pub mac: Span,
-}
 
 // 917E and 919E of Table 71.
 pub enum Status {
@@ -185,20 +124,13 @@ pub fn judge(file: u8, s: &[u8]) -> Verdict
     }
 }
 
-// What the bytes mean, whether the string is good or not: 0 stands for a byte that is not there.
-pub fn meaning(s: &[u8]) -> Reading
-    ensures { λ r. ⌜ r ≡ readingOf (readOf (now (s .entry))) ⌝ }
-{
-    spans::with_spans(fields::settings(s))
-}
-
 // What a good string means, or the status of a bad one.
 pub fn read(file: u8, s: &[u8]) -> Told
     ensures { λ r. ⌜ r ≡ readAs (judged file (now (s .entry))) (now (s .entry)) ⌝ }
 {
     let v = judge(file, s);
     match v {
-        Verdict::Good => Told::Means(meaning(s)),
+        Verdict::Good => Told::Means(fields::meaning(s)),
         Verdict::Refused(e) => Told::Unread(e),
         Verdict::WrongFile(f) => Told::UnreadFile(f),
     }

@@ -1,5 +1,6 @@
 // The rules in 01's order. The first that does not hold answers.
 ghost use mathlib.Core.Path.{_≡_};
+ghost use Prim.Native.Nat.{_<_, _^_};
 ghost use Rattle.base.specs.Decide.{pick};
 ghost use Rattle.settings.specs.declared.Finding.the-variants.{Missing, Wrong};
 ghost use Rattle.settings.specs.Rules.{optionBits, sdmFile, condition, rights, sdmOptionsBits, sdmRights};
@@ -9,15 +10,12 @@ ghost use Rattle.settings.specs.Rules.{kept, sdmMeets, sdmAbsent, sdmPar
 ghost use Rattle.settings.specs.Answers.{verdictOf};
 use super::Check;
 use super::Finding;
-use super::Head;
 use super::Part;
-use super::Settings;
 use super::Status;
 use super::Verdict;
-use super::fields;
-use super::front;
-use super::spans;
-use super::truth;
+use super::fits;
+use fields::Head;
+use fields::Settings;
 
 pub fn verdict(f: Finding) -> Verdict
     ensures { λ r. ⌜ r ≡ verdictOf f ⌝ }
@@ -32,28 +30,28 @@ pub fn verdict(f: Finding) -> Verdict
 fn option_bits(b: u8) -> bool
     ensures { λ r. ⌜ r ≡ optionBits b ⌝ }
 {
-    truth::both(b / 128 == 0, b / 4 % 16 == 0)
+    fields::both(b / 128 == 0, b / 4 % 16 == 0)
 }
 
 fn sdm_file(file: u8, h: Head) -> bool
     ensures { λ r. ⌜ r ≡ sdmFile file h ⌝ }
 {
-    truth::either(truth::negate(h.sdm), file == 2)
+    fields::either(fields::negate(h.sdm), file == 2)
 }
 
 fn is_condition(c: u8) -> bool
     ensures { λ r. ⌜ r ≡ condition c ⌝ }
 {
-    truth::either(c <= 4, truth::either(c == 14, c == 15))
+    fields::either(c <= 4, fields::either(c == 14, c == 15))
 }
 
 fn rights_kept(h: Head) -> bool
     ensures { λ r. ⌜ r ≡ rights h ⌝ }
 {
-    let one = truth::both(is_condition(h.both), is_condition(h.change));
-    truth::both(
+    let one = fields::both(is_condition(h.both), is_condition(h.change));
+    fields::both(
         is_condition(h.read),
-        truth::both(is_condition(h.write), one),
+        fields::both(is_condition(h.write), one),
     )
 }
 
@@ -66,30 +64,33 @@ fn sdm_options_bits(b: u8) -> bool
 fn sdm_rights(h: Head) -> bool
     ensures { λ r. ⌜ r ≡ sdmRights h ⌝ }
 {
-    let file = truth::both(is_condition(h.file), truth::negate(h.file == 14));
-    truth::both(is_condition(h.meta), truth::both(file, is_condition(h.ret)))
+    let file = fields::both(is_condition(h.file), fields::negate(h.file == 14));
+    fields::both(
+        is_condition(h.meta),
+        fields::both(file, is_condition(h.ret)),
+    )
 }
 
 fn meta_mirrors(h: Head) -> bool
     ensures { λ r. ⌜ r ≡ metaMirrors h ⌝ }
 {
-    truth::either(5 <= h.meta, truth::either(h.uid, h.counter))
+    fields::either(5 <= h.meta, fields::either(h.uid, h.counter))
 }
 
 fn meta_off(h: Head) -> bool
     ensures { λ r. ⌜ r ≡ metaOff h ⌝ }
 {
-    let none = truth::both(truth::negate(h.uid), truth::negate(h.counter));
-    truth::either(truth::negate(h.meta == 15), none)
+    let none = fields::both(fields::negate(h.uid), fields::negate(h.counter));
+    fields::either(fields::negate(h.meta == 15), none)
 }
 
 fn enc_needs(h: Head) -> bool
     ensures { λ r. ⌜ r ≡ encNeeds h ⌝ }
 {
-    let mirrors = truth::both(h.uid, h.counter);
-    truth::either(
-        truth::negate(h.enc),
-        truth::both(truth::negate(h.file == 15), mirrors),
+    let mirrors = fields::both(h.uid, h.counter);
+    fields::either(
+        fields::negate(h.enc),
+        fields::both(fields::negate(h.file == 15), mirrors),
     )
 }
 
@@ -97,24 +98,30 @@ fn enc_size(r: Settings) -> bool
     ensures { λ x. ⌜ x ≡ encSize r ⌝ }
 {
     let p = r.places;
-    let sized = truth::both(p.size % 32 == 0, 32 <= p.size);
-    truth::either(truth::negate(front::has_enc(r.head)), sized)
+    let sized = fields::both(p.size % 32 == 0, 32 <= p.size);
+    fields::either(fields::negate(fields::has_enc(r.head)), sized)
 }
 
 fn mac_input(r: Settings) -> bool
     ensures { λ x. ⌜ x ≡ macInput r ⌝ }
 {
     let p = r.places;
-    truth::either(truth::negate(front::has_mac(r.head)), p.input <= p.mac)
+    fields::either(fields::negate(fields::has_mac(r.head)), p.input <= p.mac)
+}
+
+fn wide(x: u32) -> u64
+    ensures { λ r. ⌜ (r ≡ x) × (r < 2 ^ 32) ⌝ }
+{
+    x as u64
 }
 
 fn enc_between(r: Settings) -> bool
     ensures { λ x. ⌜ x ≡ encBetween r ⌝ }
 {
     let p = r.places;
-    let end = spans::wide(p.enc) + spans::wide(p.size);
-    let between = truth::both(p.input <= p.enc, end <= spans::wide(p.mac));
-    truth::either(truth::negate(front::has_enc(r.head)), between)
+    let end = wide(p.enc) + wide(p.size);
+    let between = fields::both(p.input <= p.enc, end <= wide(p.mac));
+    fields::either(fields::negate(fields::has_enc(r.head)), between)
 }
 
 // A part that must be there whole, before the rest.
@@ -141,20 +148,20 @@ fn right(check: Check, holds: bool, rest: Finding) -> Finding
 fn positions(r: Settings) -> Finding
     ensures { λ x. ⌜ x ≡ found (positionRules r) ⌝ }
 {
-    let uid = spans::uid_span(r);
-    let counter = spans::counter_span(r);
-    let picc = spans::picc_span(r);
-    let enc = spans::enc_span(r);
-    let mac = spans::mac_span(r);
+    let uid = fields::uid_span(r);
+    let counter = fields::counter_span(r);
+    let picc = fields::picc_span(r);
+    let enc = fields::enc_span(r);
+    let mac = fields::mac_span(r);
     let all = [uid, counter, picc, enc, mac];
     let f9 = right(Check::EncBetween, enc_between(r), Finding::Kept);
     let f8 = right(Check::MacInput, mac_input(r), f9);
-    let f7 = right(Check::Shared, spans::all_apart(all), f8);
-    let f6 = right(Check::MacInside, spans::is_inside(mac), f7);
-    let f5 = right(Check::EncInside, spans::is_inside(enc), f6);
-    let f4 = right(Check::PiccInside, spans::is_inside(picc), f5);
-    let f3 = right(Check::CounterInside, spans::is_inside(counter), f4);
-    let f2 = right(Check::UidInside, spans::is_inside(uid), f3);
+    let f7 = right(Check::Shared, fields::all_apart(all), f8);
+    let f6 = right(Check::MacInside, fields::is_inside(mac), f7);
+    let f5 = right(Check::EncInside, fields::is_inside(enc), f6);
+    let f4 = right(Check::PiccInside, fields::is_inside(picc), f5);
+    let f3 = right(Check::CounterInside, fields::is_inside(counter), f4);
+    let f2 = right(Check::UidInside, fields::is_inside(uid), f3);
     right(Check::EncSize, enc_size(r), f2)
 }
 
@@ -162,7 +169,7 @@ fn positions(r: Settings) -> Finding
 fn sdm_broken(s: &[u8], h: Head) -> Finding
     ensures { λ r. ⌜ r ≡ found (sdmRules (now (s .entry)) h) ⌝ }
 {
-    let p = fields::places(s, h);
+    let p = fields::places_of(s, h);
     let placed = positions(Settings { head: h, places: p });
     let f8 = there(Part::Whole, s.len() == fields::size_of(h), placed);
     let f7 = right(Check::EncNeeds, enc_needs(h), f8);
@@ -178,7 +185,7 @@ fn sdm_broken(s: &[u8], h: Head) -> Finding
 fn rest_broken(s: &[u8], h: Head) -> Finding
     ensures { λ r. ⌜ r ≡ found (restRules (now (s .entry)) h) ⌝ }
 {
-    if front::sdm_on(s) {
+    if fields::sdm_on(s) {
         return sdm_broken(s, h);
     }
     there(Part::Whole, s.len() == fields::size_of(h), Finding::Kept)
@@ -188,7 +195,7 @@ fn rest_broken(s: &[u8], h: Head) -> Finding
 pub fn broken(file: u8, s: &[u8]) -> Finding
     ensures { λ r. ⌜ r ≡ found (rules file (now (s .entry))) ⌝ }
 {
-    let h = front::head(s);
+    let h = fields::head_of(s);
     let f6 = rest_broken(s, h);
     let f5 = right(Check::Rights, rights_kept(h), f6);
     let f4 = there(Part::RightsBytes, 3 <= s.len(), f5);
@@ -211,28 +218,28 @@ fn sdm_meets(r: Settings) -> bool
     ensures { λ x. ⌜ x ≡ sdmMeets r ⌝ }
 {
     let h = r.head;
-    let mirrors = truth::both(meta_mirrors(h), truth::both(meta_off(h), enc_needs(h)));
-    truth::both(truth::both(sdm_rights(h), mirrors), is_kept(positions(r)))
+    let mirrors = fields::both(meta_mirrors(h), fields::both(meta_off(h), enc_needs(h)));
+    fields::both(fields::both(sdm_rights(h), mirrors), is_kept(positions(r)))
 }
 
 fn sdm_absent(h: Head) -> bool
     ensures { λ r. ⌜ r ≡ sdmAbsent h ⌝ }
 {
-    let last = truth::both(truth::negate(h.limit), truth::negate(h.enc));
-    let mirrors = truth::both(
-        truth::negate(h.uid),
-        truth::both(truth::negate(h.counter), last),
+    let last = fields::both(fields::negate(h.limit), fields::negate(h.enc));
+    let mirrors = fields::both(
+        fields::negate(h.uid),
+        fields::both(fields::negate(h.counter), last),
     );
-    truth::both(
+    fields::both(
         mirrors,
-        truth::both(h.meta == 0, truth::both(h.file == 0, h.ret == 0)),
+        fields::both(h.meta == 0, fields::both(h.file == 0, h.ret == 0)),
     )
 }
 
 fn is_mode(m: u8) -> bool
     ensures { λ r. ⌜ r ≡ modes m ⌝ }
 {
-    truth::either(m <= 1, m == 3)
+    fields::either(m <= 1, m == 3)
 }
 
 // Whether a record meets the rules for a file.
@@ -240,11 +247,11 @@ pub fn record_meets(file: u8, r: Settings) -> bool
     ensures { λ x. ⌜ x ≡ meets file r ⌝ }
 {
     let h = r.head;
-    let front = truth::both(
+    let front = fields::both(
         is_mode(h.mode),
-        truth::both(sdm_file(file, h), rights_kept(h)),
+        fields::both(sdm_file(file, h), rights_kept(h)),
     );
-    truth::both(front, truth::both(fields::fields_fit(r), sdm_part(r)))
+    fields::both(front, fields::both(fits::fields_fit(r), sdm_part(r)))
 }
 
 fn sdm_part(r: Settings) -> bool

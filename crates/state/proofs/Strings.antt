@@ -20,9 +20,9 @@ use Rattle.writing.specs.declared.Normalised.{Normalised}
 use Rattle.writing.specs.declared.Normalised.the-variants.{Normal, BadFile, BadString, RoomTooSmall}
 use Rattle.settings.specs.Answers.{judged}
 use Rattle.writing.specs.Answers.{normalised, normalRoom}
-use Rattle.settings.specs.Normal.{normal}
-use Rattle.settings.specs.Fields.{readOf}
-use Rattle.settings.specs.Spans.{readingOf}
+use Rattle.fields.specs.Normal.{normal}
+use Rattle.fields.specs.Fields.{readOf}
+use Rattle.fields.specs.Spans.{readingOf}
 use Rattle.state.specs.declared.Files.{Files}
 use Rattle.state.specs.State.{slotOf, stringAt, rulesOf, headIn, readingIn}
 use Rattle.state.specs.Sound.{good, stringSound, rulesSound}

@@ -5,7 +5,7 @@ use lib.Dec.{eqb, leb}
 use Rattle.base.specs.Decide.{pick, and, or}
 use Rattle.messaging.specs.declared.Mode.{Mode}
 use Rattle.messaging.specs.declared.Mode.the-variants.{Plain, Mac, Full}
-use Rattle.settings.specs.declared.Head.{Head}
+use Rattle.fields.specs.declared.Head.{Head}
 use Rattle.state.specs.declared.Live.{Live}
 use Rattle.state.specs.declared.Grant.{Grant}
 use Rattle.state.specs.declared.Grant.the-variants.{ByKey, ByTap, Free, Never, Denied}

@@ -8,7 +8,7 @@ use Rattle.base.specs.Bytes.{byteAt, same}
 use Rattle.settings.specs.declared.Verdict.{Verdict}
 use Rattle.settings.specs.declared.Verdict.the-variants.{Good, Refused, WrongFile}
 use Rattle.settings.specs.Answers.{judged}
-use Rattle.settings.specs.Normal.{normal}
+use Rattle.fields.specs.Normal.{normal}
 use Rattle.state.specs.declared.Files.{Files}
 use Rattle.state.specs.declared.Tag.{Tag}
 use Rattle.state.specs.State.{slotOf, rulesOf, readingIn}

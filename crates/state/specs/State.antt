@@ -6,10 +6,10 @@ use lib.Dec.{eqb, leb}
 use lib.ListN.{take, drop, replicate}
 use Rattle.base.specs.Decide.{pick}
 use Rattle.base.specs.Bytes.{byteAt}
-use Rattle.settings.specs.declared.Head.{Head}
-use Rattle.settings.specs.declared.Reading.{Reading}
-use Rattle.settings.specs.Fields.{headOf, readOf}
-use Rattle.settings.specs.Spans.{readingOf}
+use Rattle.fields.specs.declared.Head.{Head}
+use Rattle.fields.specs.declared.Reading.{Reading}
+use Rattle.fields.specs.Fields.{headOf, readOf}
+use Rattle.fields.specs.Spans.{readingOf}
 use Rattle.state.specs.declared.Files.{Files}
 use Rattle.state.specs.declared.Secrets.{Secrets}
 use Rattle.state.specs.declared.Live.{Live}

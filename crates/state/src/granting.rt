@@ -9,8 +9,8 @@ ghost use Rattle.state.specs.Access.{either, granted, readGrant, writeGr
 use crate::Access;
 use crate::Grant;
 use crate::Live;
+use fields::Head;
 use messaging::Mode;
-use settings::Head;
 
 // Without a key: E in either right grants, and all F is never.
 fn without_key(a: u8, b: u8, c: u8) -> Grant

@@ -9,8 +9,8 @@ use crate::Live;
 use crate::Pending;
 use crate::Tag;
 use crate::Tapping;
-use settings::Head;
-use settings::Reading;
+use fields::Head;
+use fields::Reading;
 
 // Where a file's bytes begin; behind the last for any other number.
 pub fn file_start(n: u8) -> usize
@@ -74,7 +74,7 @@ pub fn string_in(rules: &[u8; 81], lens: [u8; 3], n: u8) -> &[u8]
 pub fn head_of(rules: &[u8; 81], lens: [u8; 3], n: u8) -> Head
     ensures { λ r. ⌜ r ≡ headIn (now (rules .entry)) lens n ⌝ }
 {
-    settings::head_of(string_in(rules, lens, n))
+    fields::head_of(string_in(rules, lens, n))
 }
 
 // What a file's settings mean.
@@ -83,7 +83,7 @@ pub fn reading_of(f: Files, n: u8) -> Reading
 {
     let rules = f.rules;
     let lens = f.lens;
-    settings::meaning(string_in(&rules, lens, n))
+    fields::meaning(string_in(&rules, lens, n))
 }
 
 // Key k, and zeros for a number over 4.

@@ -15,9 +15,9 @@ use Rattle.base.specs.Decide.{pick}
 use Rattle.base.specs.Bytes.{laid, low, over}
 use Rattle.base.proofs.Bytes.{le-or-lt, laid-length}
 use Rattle.base.proofs.Numbers.{low-length}
-use Rattle.settings.specs.declared.Head.{Head}
-use Rattle.settings.specs.declared.Settings.{Settings}
-use Rattle.settings.specs.Fields.{after, present, written, listed, frontBytes, sdmBytes, stringOf}
+use Rattle.fields.specs.declared.Head.{Head}
+use Rattle.fields.specs.declared.Settings.{Settings}
+use Rattle.fields.specs.Fields.{after, present, written, listed, frontBytes, sdmBytes, stringOf}
 
 pub laid-is : (s : List ℕ) (i : ℕ) (d : List ℕ) → i + length s ≤ length d → laid s i d ≡ take i d ++ s ++ drop (i + length s) d
 unfolding laid

@@ -6,9 +6,9 @@ use lib.Dec.{eqb}
 use borrow.Author.Tests.{eqb-true}
 use Rattle.base.specs.Decide.{pick, and}
 use Rattle.base.proofs.Bytes.{and-left, and-right}
-use Rattle.settings.specs.declared.Head.{Head}
-use Rattle.settings.specs.declared.Settings.{Settings}
-use Rattle.settings.specs.Fields.{present, listed}
+use Rattle.fields.specs.declared.Head.{Head}
+use Rattle.fields.specs.declared.Settings.{Settings}
+use Rattle.fields.specs.Fields.{present, listed}
 use Rattle.settings.specs.Rules.{condition, sdmFile, rights, sdmRights, metaMirrors, metaOff, encNeeds, positionRules, found, kept, fieldsFit, sdmMeets, sdmAbsent, sdmPart, modes, meets}
 
 -- both parts of a conjunction

@@ -8,12 +8,12 @@ use Rattle.base.specs.Decide.{pick}
 use Rattle.base.specs.Bytes.{over}
 use Rattle.settings.specs.declared.Verdict.{Verdict}
 use Rattle.settings.specs.declared.Verdict.the-variants.{Good, Refused, WrongFile}
-use Rattle.settings.specs.declared.Settings.{Settings}
-use Rattle.settings.specs.Fields.{stringOf}
+use Rattle.fields.specs.declared.Settings.{Settings}
+use Rattle.fields.specs.Fields.{stringOf}
 use Rattle.settings.specs.Rules.{meets}
 use Rattle.settings.specs.Filing.{byFault, fileFaultWord}
 use Rattle.settings.specs.Answers.{statusWord}
-use Rattle.settings.specs.Normal.{normal}
+use Rattle.fields.specs.Normal.{normal}
 use Rattle.writing.specs.declared.Normalised.{Normalised}
 use Rattle.writing.specs.declared.Normalised.the-variants.{Normal, BadFile, BadString, RoomTooSmall}
 use Rattle.writing.specs.declared.Written.{Written}

@@ -3,9 +3,9 @@ ghost use mathlib.Core.Path.{_≡_};
 ghost use Rattle.settings.specs.Rules.{meets};
 ghost use Rattle.settings.specs.Answers.{judged};
 ghost use Rattle.writing.specs.Answers.{normalised, normalRoom, recordAs, recordRoom, writtenAs, writtenRoom};
+use fields::Settings;
 use settings::FileFault;
 use settings::Filed;
-use settings::Settings;
 use settings::Status;
 use settings::Verdict;
 

@@ -7,15 +7,15 @@ ghost use lib.Dec.{leb, ltb};
 ghost use lib.ListN.{length, take, set};
 ghost use Rattle.base.specs.Decide.{pick};
 ghost use Rattle.base.specs.Bytes.{low, laid, over};
-ghost use Rattle.settings.specs.Fields.{one, after, written, stringOf};
+ghost use Rattle.fields.specs.Fields.{one, after, written, stringOf};
 ghost use Rattle.settings.specs.Rules.{rights, sdmRights, modes};
-ghost use Rattle.settings.specs.Normal.{plainMode, freeBits};
+ghost use Rattle.fields.specs.Normal.{plainMode, freeBits};
 ghost use Rattle.settings.specs.declared.Verdict.the-variants.{Good};
 ghost use Rattle.writing.specs.Answers.{normalised, normalRoom, recordAs, recordRoom};
 use super::Normalised;
 use super::Written;
-use settings::Head;
-use settings::Settings;
+use fields::Head;
+use fields::Settings;
 
 fn plain_mode(b: u8) -> u8
     ensures { λ r. ⌜ r ≡ plainMode b ⌝ }
@@ -59,7 +59,7 @@ pub fn lay_normal(s: &[u8], room: &mut [u8]) -> Normalised
             room,
             n,
             4,
-            free_bits(settings::head_of(s).sdm, base::at(s, 4)),
+            free_bits(fields::head_of(s).sdm, base::at(s, 4)),
         );
         return Normalised::Normal(n);
     }
@@ -143,11 +143,7 @@ fn lay_string(r: Settings, room: &mut [u8]) -> usize
     if h.sdm {
         let sdm = [sdm_options_byte(h), 240 + h.ret, pair(h.meta, h.file)];
         base::put(&sdm, room, 3);
-        return lay_fields(
-            settings::present_fields(h),
-            settings::in_order(r.places),
-            room,
-        );
+        return lay_fields(fields::present_fields(h), fields::in_order(r.places), room);
     }
     3
 }

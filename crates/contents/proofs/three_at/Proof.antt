@@ -3,7 +3,7 @@ use mathlib.Core.Path.{_∙_}
 use native.Mathlib.Omega.{arith}
 use borrow.Author.Needs.{needs}
 use Rattle.base.specs.Bytes.{number}
-use Rattle.settings.specs.Fields.{three}
+use Rattle.fields.specs.Fields.{three}
 use Rattle.contents.proofs.three_at.Statement.{statement}
 use Rattle.contents.proofs.three_at.Tie as tie
 

@@ -1,7 +1,7 @@
 -- `details::sdm_of` meets its contract.
 use mathlib.Core.Path.{ap}
 use borrow.Author.Needs.{needs}
-use Rattle.settings.specs.declared.Head.{Head}
+use Rattle.fields.specs.declared.Head.{Head}
 use Rattle.details.proofs.sdm_of.Statement.{statement}
 use Rattle.details.proofs.sdm_of.Tie as tie
 

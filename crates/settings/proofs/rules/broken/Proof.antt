@@ -2,7 +2,7 @@
 use mathlib.Core.Path.{refl, ap, _∙_}
 use Rattle.settings.specs.declared.Part.the-variants.{OptionByte, RightsBytes}
 use Rattle.settings.specs.declared.Check.the-variants.{OptionBits, SdmFile, Rights}
-use Rattle.settings.specs.Fields.{headOf}
+use Rattle.fields.specs.Fields.{headOf}
 use Rattle.settings.specs.Rules.{found, optionBits, sdmFile, rights, restRules, rules}
 use Rattle.settings.proofs.Found.{Finds, whole, checked}
 use borrow.Author.Needs.{needs}

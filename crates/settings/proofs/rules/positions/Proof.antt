@@ -2,7 +2,7 @@
 use mathlib.Core.Path.{_≡_, ap, _∙_}
 use Rattle.settings.specs.declared.Check.the-variants.{EncSize, UidInside, CounterInside, PiccInside, EncInside}
 use Rattle.settings.specs.declared.Check.the-variants.{MacInside, Shared, MacInput, EncBetween}
-use Rattle.settings.specs.Spans.{spansOf, inside, allApart}
+use Rattle.fields.specs.Spans.{spansOf, inside, allApart}
 use Rattle.settings.specs.Rules.{positionRules}
 use Rattle.settings.proofs.Found.{none, checked}
 use borrow.Author.Needs.{needs}

@@ -4,7 +4,7 @@ use lib.Dec.{eqb}
 use lib.ListN.{length}
 use Rattle.settings.specs.declared.Part.the-variants.{SdmOptionsByte, SdmRightsBytes, Whole}
 use Rattle.settings.specs.declared.Check.the-variants.{SdmOptionsBits, SdmRights, MetaMirrors, MetaOff, EncNeeds}
-use Rattle.settings.specs.Fields.{placesIn}
+use Rattle.fields.specs.Fields.{placesIn}
 use Rattle.settings.specs.Rules.{found, sdmOptionsBits, positionRules, sdmRules}
 use Rattle.settings.proofs.Found.{Finds, whole, checked}
 use borrow.Author.Needs.{needs}

@@ -1,7 +1,7 @@
 -- `state::parts::head_of` meets its contract.
 use mathlib.Core.Path.{ap, _∙_}
 use borrow.Author.Needs.{needs}
-use Rattle.settings.specs.Fields.{headOf}
+use Rattle.fields.specs.Fields.{headOf}
 use Rattle.state.specs.State.{headIn}
 use Rattle.state.proofs.parts.head_of.Statement.{statement}
 use Rattle.state.proofs.parts.head_of.Tie as tie

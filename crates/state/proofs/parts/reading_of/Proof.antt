@@ -1,8 +1,8 @@
 -- `state::parts::reading_of` meets its contract.
 use mathlib.Core.Path.{ap, _∙_}
 use borrow.Author.Needs.{needs}
-use Rattle.settings.specs.Spans.{readingOf}
-use Rattle.settings.specs.Fields.{readOf}
+use Rattle.fields.specs.Spans.{readingOf}
+use Rattle.fields.specs.Fields.{readOf}
 use Rattle.state.specs.State.{rulesOf, readingIn}
 use Rattle.state.proofs.parts.reading_of.Statement.{statement}
 use Rattle.state.proofs.parts.reading_of.Tie as tie

@@ -1,5 +1,5 @@
 -- `writing::text::free_bits` meets its contract.
-use Rattle.settings.specs.Normal.{freeBits}
+use Rattle.fields.specs.Normal.{freeBits}
 use borrow.Author.Needs.{needs}
 use Rattle.writing.proofs.text.free_bits.Statement.{statement}
 use Rattle.writing.proofs.text.free_bits.Tie as tie

@@ -8,9 +8,9 @@ use lib.ListN.{length, set, length-set}
 use borrow.Author.Tests.{le-leb, lt-leb}
 use Rattle.base.specs.Decide.{pick}
 use Rattle.base.specs.Bytes.{over}
-use Rattle.settings.specs.declared.Head.{Head}
-use Rattle.settings.specs.Fields.{headOf}
-use Rattle.settings.specs.Normal.{plainMode, freeBits, normal}
+use Rattle.fields.specs.declared.Head.{Head}
+use Rattle.fields.specs.Fields.{headOf}
+use Rattle.fields.specs.Normal.{plainMode, freeBits, normal}
 use Rattle.writing.specs.Answers.{normalised, normalRoom}
 use Rattle.writing.proofs.Laying.{laid-front, adjusted}
 use Rattle.writing.proofs.text.lay_normal.Statement.{statement}

@@ -7,7 +7,7 @@ use lib.Seq.{take-append-seam}
 use Rattle.base.specs.Decide.{pick}
 use Rattle.base.specs.Bytes.{over}
 use Rattle.writing.specs.declared.Written.the-variants.{Laid, NoRoom}
-use Rattle.settings.specs.Fields.{stringOf}
+use Rattle.fields.specs.Fields.{stringOf}
 use Rattle.writing.specs.Answers.{recordAs, recordRoom}
 use Rattle.writing.proofs.text.lay_record.Statement.{statement}
 use Rattle.writing.proofs.text.lay_record.Tie as tie

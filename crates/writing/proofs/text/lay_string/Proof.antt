@@ -6,7 +6,7 @@ use Prim.Native.Nat.{_+_, _≤_}
 use native.Mathlib.Omega.{arith}
 use lib.ListN.{length, length-append}
 use Rattle.base.specs.Bytes.{over}
-use Rattle.settings.specs.Fields.{frontBytes, sdmBytes, present, listed, written}
+use Rattle.fields.specs.Fields.{frontBytes, sdmBytes, present, listed, written}
 use Rattle.writing.proofs.Small.{mode-small, rights-small, sdm-small}
 use Rattle.writing.proofs.Laying.{laid-front, string-on, string-off, in-three}
 use Rattle.writing.proofs.text.lay_string.Statement.{statement}

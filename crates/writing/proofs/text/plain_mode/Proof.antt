@@ -1,6 +1,6 @@
 -- `writing::text::plain_mode` meets its contract.
 use Rattle.base.proofs.Bytes.{tests}
-use Rattle.settings.specs.Normal.{plainMode}
+use Rattle.fields.specs.Normal.{plainMode}
 use borrow.Author.Needs.{needs}
 use Rattle.writing.proofs.text.plain_mode.Statement.{statement}
 use Rattle.writing.proofs.text.plain_mode.Tie as tie
