@@ -1,5 +1,5 @@
--- Each public function of image, of the C border, of plans and of verdict: its promise, as the source states it, determines the result, the image
--- and the rooms.
+-- Each public function of image, of the C border, of plans, of verdict and of keeping: its promise, as the source states it, determines the
+-- result, the image and the rooms.
 use mathlib.Core.Bool.{Bool}
 use mathlib.Core.List.{List}
 use mathlib.Core.Path.{_≡_}
@@ -17,6 +17,9 @@ use Rattle.plans.specs.declared.Line.{Line}
 use Rattle.plans.specs.Heads.{Heads}
 use Rattle.plans.specs.Plan.{said, goodBytes, bytesRoom, lineOf, lineCommand, lineRandom, lineExpected}
 use Rattle.verdict.specs.Replies.{statusIn, refusing, differing}
+use Rattle.keeping.specs.declared.Asked.{Asked}
+use Rattle.keeping.specs.declared.Begun.{Begun}
+use Rattle.keeping.specs.Keep.{askedBy, keptIn, besideLength, besideRoom}
 use Rattle.demands.specs.Determining.{Determined, DeterminedIn, DeterminedRooms, DeterminedThree}
 use Rattle.demands.proofs.Determined.{once, twice, thrice, fourfold}
 
@@ -72,3 +75,14 @@ refuses-determined status = once
 
 pub differs-determined : (expected reply : List ℕ) → Determined (λ (r : Bool). r ≡ differing expected reply)
 differs-determined expected reply = once
+
+-- ---- keeping
+pub asks-determined : (count : ℕ) (named : Bool) → Determined (λ (r : Asked). r ≡ askedBy count named)
+asks-determined count named = once
+
+pub kept-determined : (s uid : List ℕ) → Determined (λ (r : Begun). r ≡ keptIn s uid)
+kept-determined s uid = once
+
+pub beside-determined : (path room : List ℕ)
+    → DeterminedIn (λ (r : ℕ) (new : List ℕ). (r ≡ besideLength path room) × (new ≡ besideRoom path room))
+beside-determined path room = twice

@@ -1,3 +1,2 @@
-pub mod Keep
 pub mod Steps
 pub mod Counts

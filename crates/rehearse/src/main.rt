@@ -2,9 +2,9 @@
 // command's 20 random bytes, and '=' what its reply must be. Prints each exchange, what the tag is then, and last how it went. With
 // --image FILE the tag is the one whose image FILE holds, and FILE holds its image then; where there is no FILE, it is made.
 ghost use Prim.Native.Nat.{_≤_};
-use keep::Asked;
-use keep::Begun;
-use keep::Start;
+use keeping::Asked;
+use keeping::Begun;
+use keeping::Start;
 use state::Made;
 use state::Tag;
 use walk::Tally;
@@ -44,7 +44,7 @@ fn resumed(fd: i32, uid: &[u8; 7]) -> Begun {
     let mut s = [0u8; 673];
     let n = io::read_full(fd, &mut s);
     libc::close(fd);
-    keep::kept(&s[..n], uid)
+    keeping::kept(&s[..n], uid)
 }
 
 // The tag of the file, or a fresh one where there is no file or none is named.
@@ -167,7 +167,7 @@ fn play_held(fd: i32, path: &[u8], name: &[u8]) -> Tally {
 // The same with a file whose name is whole: FILE.new is held from here to the end.
 fn play_target(path: &[u8]) -> Tally {
     let mut name = [0u8; 4096];
-    let n = keep::beside(path, &mut name);
+    let n = keeping::beside(path, &mut name);
     let fd = keep::hold(&name[..n]);
     if fd < 0 {
         return walk::none();
@@ -230,6 +230,6 @@ fn started(a: Asked) -> Tally {
 }
 
 fn main() {
-    let a = keep::asks(os::arg_count(), names_image());
+    let a = keeping::asks(os::arg_count(), names_image());
     show::last(started(a));
 }

@@ -12,10 +12,15 @@ pub fn say_number(n: u64) {
     io::print_decimal(STDOUT_FILENO, n);
 }
 
+// A number behind a text.
+pub fn tell(text: &[u8], n: u64) {
+    say(text);
+    say_number(n);
+}
+
 // The line that must be the UID is not.
 pub fn no_uid(number: u64) {
-    say(b"line ");
-    say_number(number);
+    tell(b"line ", number);
     say(
         b": it must be the tag's UID, 7 bytes in hexadecimal, the first of them 04; nothing was rehearsed\n",
     );
@@ -27,8 +32,7 @@ pub fn too_long() {
 
 // A line that is skipped, and why.
 pub fn skipped(number: u64, why: &[u8]) {
-    say(b"line ");
-    say_number(number);
+    tell(b"line ", number);
     say(b": ");
     say(why);
     say(b"; skipped\n");
@@ -143,8 +147,7 @@ fn reply(command: &[u8], r: &[u8]) {
 
 // The command of a line, and its reply.
 pub fn exchange(number: u64, command: &[u8], r: &[u8]) {
-    say(b"line ");
-    say_number(number);
+    tell(b"line ", number);
     say(b" >");
     spaced(command);
     say(b"\n");
@@ -160,24 +163,19 @@ pub fn unlike(expected: &[u8]) {
 
 // What was not as expected, where a plan expects anything.
 fn expectations(n: Tally) {
-    say(b", ");
-    say_number(n.unmet);
-    say(b" of ");
-    say_number(n.expecting);
+    tell(b", ", n.unmet);
+    tell(b" of ", n.expecting);
     say(b" not as expected");
     if 0 < n.unmet {
-        say(b", the first in line ");
-        say_number(n.first);
+        tell(b", the first in line ", n.first);
     }
 }
 
 // The last line.
 pub fn last(n: Tally) {
     say_number(n.exchanges);
-    say(b" exchanges, ");
-    say_number(n.refused);
-    say(b" refused, ");
-    say_number(n.skipped);
+    tell(b" exchanges, ", n.refused);
+    tell(b" refused, ", n.skipped);
     say(b" lines skipped");
     if 0 < n.expecting {
         expectations(n);

@@ -1,6 +1,7 @@
 // What the tag is at the end.
 use crate::show::say;
 use crate::show::say_number;
+use crate::show::tell;
 use fields::Head;
 use fields::Places;
 use fields::Reading;
@@ -29,25 +30,20 @@ fn place(p: Place) {
 fn session(l: Live, p: Pending) {
     say(b"  session: ");
     if l.on {
-        say(b"key ");
-        say_number(l.key as u64);
-        say(b", CmdCtr ");
-        say_number(l.counter as u64);
+        tell(b"key ", l.key as u64);
+        tell(b", CmdCtr ", l.counter as u64);
     } else {
         say(b"none");
     }
     if p.on {
-        say(b", part two pending for key ");
-        say_number(p.key as u64);
+        tell(b", part two pending for key ", p.key as u64);
     }
     say(b"\n");
 }
 
-// A condition: a key's number, E (free) or F (never).
+// A condition behind its name: a key's number, E (free) or F (never).
 fn condition(name: &[u8], v: u8) {
-    say(b", ");
     say(name);
-    say(b" ");
     say(&[lines::character(v)]);
 }
 
@@ -59,49 +55,53 @@ fn mode(m: u8) {
     }
 }
 
+// Where a mirror stands, behind its name.
 fn mirror(name: &[u8], present: bool, start: u32) {
     if present {
-        say(b", ");
-        say(name);
-        say(b" at ");
-        say_number(start as u64);
+        tell(name, start as u64);
     }
 }
 
-// What PICCData holds.
-fn encrypted(uid: bool, counter: bool) {
-    if uid {
-        say(b" (UID)");
+fn say_if(so: bool, text: &[u8]) {
+    if so {
+        say(text);
     }
-    if counter {
-        say(b" (counter)");
+}
+
+// What PICCData holds, where it is there.
+fn encrypted(present: bool, uid: bool, counter: bool) {
+    if present {
+        say_if(uid, b" (UID)");
+        say_if(counter, b" (counter)");
     }
 }
 
 fn rights(h: Head) {
     mode(h.mode);
-    condition(b"Read", h.read);
-    condition(b"Write", h.write);
-    condition(b"ReadWrite", h.both);
-    condition(b"Change", h.change);
+    condition(b", Read ", h.read);
+    condition(b", Write ", h.write);
+    condition(b", ReadWrite ", h.both);
+    condition(b", Change ", h.change);
 }
 
-// Where mirrors stand, and the conditions of SDM.
-fn mirrors(r: Reading, h: Head, p: Places) {
+// The conditions of SDM.
+fn sdm_rights(h: Head) {
     say(b"\n          SDM on");
-    condition(b"MetaRead", h.meta);
-    condition(b"FileRead", h.file);
-    condition(b"CtrRet", h.ret);
-    mirror(b"UID", r.uid.present, r.uid.start);
-    mirror(b"counter", r.counter.present, r.counter.start);
-    mirror(b"PICCData", r.picc.present, r.picc.start);
-    if r.picc.present {
-        encrypted(h.uid, h.counter);
-    }
-    mirror(b"ENC", r.enc.present, r.enc.start);
-    mirror(b"MAC input", r.mac.present, p.input);
-    mirror(b"MAC", r.mac.present, r.mac.start);
-    mirror(b"limit", h.limit, p.limit);
+    condition(b", MetaRead ", h.meta);
+    condition(b", FileRead ", h.file);
+    condition(b", CtrRet ", h.ret);
+}
+
+// Where mirrors stand.
+fn mirrors(r: Reading, h: Head, p: Places) {
+    mirror(b", UID at ", r.uid.present, r.uid.start);
+    mirror(b", counter at ", r.counter.present, r.counter.start);
+    mirror(b", PICCData at ", r.picc.present, r.picc.start);
+    encrypted(r.picc.present, h.uid, h.counter);
+    mirror(b", ENC at ", r.enc.present, r.enc.start);
+    mirror(b", MAC input at ", r.mac.present, p.input);
+    mirror(b", MAC at ", r.mac.present, r.mac.start);
+    mirror(b", limit at ", h.limit, p.limit);
 }
 
 fn file(f: Files, n: u8) {
@@ -109,20 +109,21 @@ fn file(f: Files, n: u8) {
     let s = r.settings;
     let h = s.head;
     let p = s.places;
-    say(b"  file ");
-    say_number(n as u64);
+    tell(b"  file ", n as u64);
     say(b": ");
     rights(h);
     if h.sdm {
+        sdm_rights(h);
         mirrors(r, h, p);
     }
     say(b"\n");
 }
 
+// The first line, and the UID.
 fn uid(u: [u8; 7]) {
     let mut digits = [0u8; 14];
     lines::encode(&u, &mut digits);
-    say(b"  UID: ");
+    say(b"The tag now:\n  UID: ");
     say(&digits);
     say(b"\n");
 }
@@ -130,12 +131,10 @@ fn uid(u: [u8; 7]) {
 pub fn print(t: Tag) {
     let f = t.files;
     let u = t.uid;
-    say(b"The tag now:\n");
     uid(u);
     place(t.place);
     session(t.live, t.pending);
-    say(b"  tap counter: ");
-    say_number(t.tap.counter as u64);
+    tell(b"  tap counter: ", t.tap.counter as u64);
     say(b"\n");
     file(f, 1);
     file(f, 2);

@@ -1,5 +1,5 @@
 -- `rehearse::keep::name_of` meets its contract.
-use Rattle.rehearse.proofs.Keeping.{descriptor-fits}
+use Rattle.rehearse.proofs.Descriptors.{descriptor-fits}
 use borrow.Author.Needs.{needs}
 use Rattle.rehearse.proofs.keep.name_of.Statement.{statement}
 use Rattle.rehearse.proofs.keep.name_of.Tie as tie

@@ -1,9 +1,9 @@
--- `rehearse::keep::judged` meets its contract.
+-- `keeping::judged` meets its contract.
 use mathlib.Core.Path.{refl}
 use borrow.Author.Needs.{needs}
-use Rattle.rehearse.specs.Keep.{startBy}
-use Rattle.rehearse.proofs.keep.judged.Statement.{statement}
-use Rattle.rehearse.proofs.keep.judged.Tie as tie
+use Rattle.keeping.specs.Keep.{startBy}
+use Rattle.keeping.proofs.judged.Statement.{statement}
+use Rattle.keeping.proofs.judged.Tie as tie
 
 enum-told : tie.Need-enum-told
 enum-told c = search needs

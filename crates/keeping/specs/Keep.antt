@@ -11,11 +11,11 @@ use Rattle.image.specs.declared.Found.{Found}
 use Rattle.image.specs.declared.Found.the-variants.{Whole, WrongLength, WrongVersion, NotABoolean}
 use Rattle.image.specs.declared.Read.{Read}
 use Rattle.image.specs.Answers.{readIn}
-use Rattle.rehearse.specs.declared.keep.Asked.{Asked}
-use Rattle.rehearse.specs.declared.keep.Asked.the-variants.{Plain, Image, NoFile, Unknown}
-use Rattle.rehearse.specs.declared.keep.Start.{Start}
-use Rattle.rehearse.specs.declared.keep.Start.the-variants.{Ready, OtherLength, OtherVersion, NotABit, Unsound, OtherUid, NoUid, Unread}
-use Rattle.rehearse.specs.declared.keep.Begun.{Begun}
+use Rattle.keeping.specs.declared.Asked.{Asked}
+use Rattle.keeping.specs.declared.Asked.the-variants.{Plain, Image, NoFile, Unknown}
+use Rattle.keeping.specs.declared.Start.{Start}
+use Rattle.keeping.specs.declared.Start.the-variants.{Ready, OtherLength, OtherVersion, NotABit, Unsound, OtherUid, NoUid, Unread}
+use Rattle.keeping.specs.declared.Begun.{Begun}
 
 -- numbers of this house: what the arguments ask for, an unknown one with 10 and its place; and what a run starts from
 unfoldable pub askedNumber : Asked → ℕ

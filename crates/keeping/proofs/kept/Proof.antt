@@ -1,8 +1,8 @@
--- `rehearse::keep::kept` meets its contract.
+-- `keeping::kept` meets its contract.
 use borrow.Author.Needs.{needs}
-use Rattle.rehearse.proofs.Keeping.{kept-is}
-use Rattle.rehearse.proofs.keep.kept.Statement.{statement}
-use Rattle.rehearse.proofs.keep.kept.Tie as tie
+use Rattle.keeping.proofs.Keeping.{kept-is}
+use Rattle.keeping.proofs.kept.Statement.{statement}
+use Rattle.keeping.proofs.kept.Tie as tie
 
 from-image-requires : tie.Need-from-image-requires
 from-image-requires c κs = search needs

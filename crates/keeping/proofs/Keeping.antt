@@ -1,17 +1,11 @@
 -- Laws of a kept tag: what a run starts from, and the name of the new file.
 use mathlib.Core.Path.{_≡_, refl, sym, ap, ap₂, _∙_}
-use mathlib.Core.Bool.{Bool, true, false}
+use mathlib.Core.Bool.{Bool, true}
 use mathlib.Core.List.{List}
 use mathlib.Core.Logic.{⊎-elim}
 use Prim.Native.Nat.{ℕ, _+_, _≤_, _<_}
 use native.Mathlib.Omega.{arith}
-use lib.Dec.{T}
-use lib.IntN.{ℤ, pos, negsuc, natAbs}
 use lib.ListN.{length, length-append}
-use lib.Signed.{ltZ, nonNeg}
-use mir.Facts.{toZ-ofZ}
-use mir.Syntax.{w32, w64}
-use mir.Val.{Fits, SFits, toZ, ofZ}
 use borrow.Author.Tests.{le-leb, lt-leb}
 use Rattle.base.specs.Bytes.{same, laid}
 use Rattle.base.proofs.Bytes.{le-or-lt, same-refl, laid-front, over-more}
@@ -22,10 +16,10 @@ use Rattle.image.specs.declared.Read.{Read}
 use Rattle.image.specs.Image.{imageOf}
 use Rattle.image.specs.Answers.{whole, readIn}
 use Rattle.image.proofs.Roundtrip.{Shaped, image-whole}
-use Rattle.rehearse.specs.declared.keep.Start.{Start}
-use Rattle.rehearse.specs.declared.keep.Start.the-variants.{Ready}
-use Rattle.rehearse.specs.declared.keep.Begun.{Begun}
-use Rattle.rehearse.specs.Keep.{startBy, keptBy, keptIn, dotNew, newName, besideLength, besideRoom}
+use Rattle.keeping.specs.declared.Start.{Start}
+use Rattle.keeping.specs.declared.Start.the-variants.{Ready}
+use Rattle.keeping.specs.declared.Begun.{Begun}
+use Rattle.keeping.specs.Keep.{startBy, keptBy, keptIn, dotNew, newName, besideLength, besideRoom}
 
 -- what was read, judged by its parts
 pub kept-is : (s uid : List ℕ) (r : Read) (v : Start) (a b : Bool) → r ≡ readIn s → a ≡ soundTag (r .tag) → b ≡ same uid (r .tag .uid)
@@ -70,12 +64,3 @@ within path room =
 
 pub beside-fits : (path room : List ℕ) {n l : ℕ} → length room ≡ l → n ≡ besideLength path room → n ≤ l
 beside-fits path room e q = omega (arith, e, q, within path room)
-
--- ---- a descriptor that is not negative, as a number
-by-sign : (z : ℤ) → SFits w32 z → ltZ z (pos 0) ≡ false → T (nonNeg z) × Fits w64 (natAbs z)
-by-sign (pos n) f h = (tt, record { fits = omega (arith, f .sfits) })
-by-sign (negsuc n) f h = let e : _≡_ {A = ℕ} 0 1 = cc in (omega arith, record { fits = omega arith })
-
-pub descriptor-fits : (z : ℤ) → SFits w32 z → ltZ (toZ w32 (ofZ w32 z)) (pos 0) ≡ false
-    → T (nonNeg (toZ w32 (ofZ w32 z))) × Fits w64 (natAbs (toZ w32 (ofZ w32 z)))
-descriptor-fits z f h = rw (toZ-ofZ f) (by-sign z f (rw (toZ-ofZ f) at h))

@@ -1,9 +1,9 @@
--- `rehearse::keep::asks` meets its contract.
+-- `keeping::asks` meets its contract.
 use mathlib.Core.Path.{refl}
 use borrow.Author.Tests.{le-leb, lt-leb}
-use Rattle.rehearse.specs.Keep.{askedBy}
-use Rattle.rehearse.proofs.keep.asks.Statement.{statement}
-use Rattle.rehearse.proofs.keep.asks.Tie as tie
+use Rattle.keeping.specs.Keep.{askedBy}
+use Rattle.keeping.proofs.asks.Statement.{statement}
+use Rattle.keeping.proofs.asks.Tie as tie
 
 returns : tie.Need-returns
 unfolding askedBy

@@ -1,9 +1,9 @@
--- `rehearse::keep::beside` meets its contract.
+-- `keeping::beside` meets its contract.
 use native.Mathlib.Omega.{arith}
 use borrow.Author.Needs.{needs}
-use Rattle.rehearse.proofs.Keeping.{beside-not, beside-is}
-use Rattle.rehearse.proofs.keep.beside.Statement.{statement}
-use Rattle.rehearse.proofs.keep.beside.Tie as tie
+use Rattle.keeping.proofs.Keeping.{beside-not, beside-is}
+use Rattle.keeping.proofs.beside.Statement.{statement}
+use Rattle.keeping.proofs.beside.Tie as tie
 
 returns : tie.Need-returns
 returns c = let a = c .before .before .before .args in beside-not (a .path .now) (a .room .now) (omega (arith, c .if1 .taken))
