@@ -14,7 +14,10 @@ refuse-requires c κs = search needs
 
 returns : tie.Need-returns
 unfolding readRange
-returns c = let a = c .before .before .before .args in rw (← c .before .before .file-size .ensures, le-leb (c .before .before .file-size .result) (a .at) (c .before .if1 .taken)) (c .refuse .ensures)
+returns c =
+    let a = c .before .before .before .args in
+    rw (← c .before .before .file-size .ensures, le-leb (c .before .before .file-size .result) (a .at) (c .before .if1 .taken))
+    (c .refuse .ensures)
 
 sub-left : tie.Need-sub-left
 sub-left c = search needs

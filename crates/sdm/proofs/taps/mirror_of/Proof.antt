@@ -19,7 +19,9 @@ where-there-requires-2 : tie.Need-where-there-requires-2
 where-there-requires-2 c κs = search needs
 
 array-share-prefix-uid : tie.Need-array-share-prefix-uid
-array-share-prefix-uid c = let l : length (c .before .before .before .args .t1) ≡ 7 = search needs in omega (arith, c .before .where-there .ensures, pick-le (c .before .before .before .args .names) 7)
+array-share-prefix-uid c =
+    let l : length (c .before .before .before .args .t1) ≡ 7 = search needs in
+    omega (arith, c .before .where-there .ensures, pick-le (c .before .before .before .args .names) 7)
 
 slice-aggregate-put : tie.Need-slice-aggregate-put
 slice-aggregate-put c =

@@ -75,7 +75,8 @@ returns c =
       is = d .before .before .before .before .before .before .before .before .positions .ensures
           ∙ ap (λ p. found (positionRules (record { head = h; places = p }))) (g .places .ensures);
     } in
-    let f₈ = whole Whole (ap (λ k. eqb n k) (d .before .before .before .before .before .before .before .size-of .ensures)) f₉ (d .before .before .before .before .before .before .there .ensures) in
+    let f₈ = whole Whole (ap (λ k. eqb n k) (d .before .before .before .before .before .before .before .size-of .ensures)) f₉
+    (d .before .before .before .before .before .before .there .ensures) in
     let f₇ = checked EncNeeds (d .before .before .before .before .before .enc-needs .ensures) f₈ (d .before .before .before .before .right .ensures) in
     let f₆ = checked MetaOff (d .before .before .before .meta-off .ensures) f₇ (d .before .before .right2 .ensures) in
     let f₅ = checked MetaMirrors (d .before .meta-mirrors .ensures) f₆ (d .right3 .ensures) in

@@ -21,11 +21,19 @@ returns c = ap (λ n. byteStatus n (c .before .args .b)) (sym (c .match .keys1))
 
 returns-2 : tie.Need-returns-2
 unfolding byteStatus oneOf
-returns-2 c = let a = c .before .before .args in c .key-status .ensures ∙ each (λ n. keyStatus (a .b) ≡ byteStatus n (a .b)) (0x64 ∷ 0xC4 ∷ []) (a .ins) (c .before .match .keys2) (refl, (refl, tt))
+returns-2 c =
+    let a = c .before .before .args in
+    c .key-status .ensures ∙ each (λ n. keyStatus (a .b) ≡ byteStatus n (a .b)) (0x64 ∷ 0xC4 ∷ []) (a .ins)
+    (c .before .match .keys2) (refl, (refl, tt))
 
 returns-3 : tie.Need-returns-3
 unfolding byteStatus
-returns-3 c = let n = c .before .before .args .ins in c .file-status .ensures ∙ rw (ne-eqb n 0x51 (c .before .match .rest .0 .1), none (0x64 ∷ 0xC4 ∷ []) n (c .before .match .rest .1)) refl
+returns-3 c =
+    let n = c .before .before .args .ins in
+    c .file-status .ensures ∙ rw (
+      ne-eqb n 0x51 (c .before .match .rest .0 .1),
+      none (0x64 ∷ 0xC4 ∷ []) n (c .before .match .rest .1),
+    ) refl
 
 pub byte-status-spec : {M : Type 1} → statement M
 byte-status-spec = tie.close (tie.spec key-status-requires file-status-requires returns returns-2 returns-3)
