@@ -22,7 +22,7 @@ use Rattle.state.specs.declared.Tag.{Tag}
 abbrev pub byFile : ℕ → ℕ → ℕ → ℕ → ℕ → ℕ
 byFile n a b c other = pick (eqb n 1) a (pick (eqb n 2) b (pick (eqb n 3) c other))
 
--- Table 4: file 1 has 32 bytes, file 2 256, file 3 128; they stand one behind the other
+-- Table 5: file 1 has 32 bytes, file 2 256, file 3 128; they stand one behind the other
 unfoldable pub startOf : ℕ → ℕ
 startOf n = byFile n 0 32 288 416
 

@@ -1,4 +1,4 @@
--- A reply is data and two status bytes (01, step 10).
+-- A reply is data and two status bytes (01, "Refusals before any status word").
 use mathlib.Core.Bool.{Bool, true, false}
 use mathlib.Core.List.{List}
 use Prim.Native.Nat.{ℕ, _+_, _-_, _*_}
