@@ -1,5 +1,2 @@
-pub mod Answers
-pub mod Macs
 pub mod Rounds
-pub mod Turns
 pub mod Words

@@ -1,15 +1,17 @@
 -- Blocks as words: each step over words is the standard's.
-use mathlib.Core.Path.{_≡_}
+use mathlib.Core.Path.{_≡_, refl, ap, _∙_}
 use mathlib.Core.List.{List, [], _∷_}
-use Prim.Native.Nat.{ℕ}
+use Prim.Native.Nat.{ℕ, _/_}
 use Rattle.base.specs.Bytes.{byteAt, AllBytes, tab}
 use Rattle.base.proofs.Pieces.{tab-of}
 use Rattle.sbox.specs.Field.{_⊕_}
-use Rattle.sbox.specs.Tables.{sbox}
+use Rattle.sbox.specs.Tables.{sbox, invSbox}
 use Rattle.sbox.specs.Words.{mixingTable, unmixingTable}
+use Rattle.sbox.proofs.Rule.{sbox-bytes, invSbox-bytes}
 use Rattle.words.specs.Words.{rows, blockOf, columnOf, pickedOf}
-use Rattle.words.proofs.Words.{rows-xor, block-words, picked-rows, mixing-rows, unmixing-rows}
+use Rattle.words.proofs.Words.{rows-xor, block-words, picked-rows, mixing-sub, mixing-rows, unmixing-rows}
 use Rattle.aes.specs.Block.{IsBlock, xorBlock, substitute, shiftRows, invShiftRows, mixColumns, invMixColumns}
+use Rattle.aes.specs.ByTables.{mixedBy, subBy, subColumn, shiftedBy, unshiftedBy, unmixedBy}
 
 -- a block is the table of its bytes
 pub block-table : (s : List ℕ) → IsBlock s → tab 16 (byteAt s) ≡ s
@@ -61,3 +63,38 @@ unfolding invMixColumns blockOf rows
 unmixing-block a b c d =
     block-words (columnOf unmixingTable a a a a) (columnOf unmixingTable b b b b) (columnOf unmixingTable c c c c) (columnOf unmixingTable d d d d) _ _ _ _
     (unmixing-rows a a a a) (unmixing-rows b b b b) (unmixing-rows c c c c) (unmixing-rows d d d d)
+
+-- ---- four words by a table, where it is the standard's
+pub mixed-table : (t x : List ℕ) → t ≡ mixingTable → blockOf (mixedBy t x) ≡ mixColumns (shiftRows (substitute sbox (blockOf x)))
+unfolding mixedBy blockOf
+mixed-table t x e = ap (λ u. blockOf (mixedBy u x)) e ∙ mixing-block (byteAt x 0) (byteAt x 1) (byteAt x 2) (byteAt x 3)
+
+sub-picked : (a b c d : ℕ) → subColumn mixingTable a b c d ≡ pickedOf sbox a b c d
+unfolding subColumn subBy pickedOf
+sub-picked a b c d = rw (mixing-sub a, mixing-sub (b / 256), mixing-sub (c / 65536), mixing-sub (d / 16777216)) refl
+
+shifted-words : (x : List ℕ) → (let t = sbox in
+    shiftedBy mixingTable x
+    ≡ pickedOf t (byteAt x 0) (byteAt x 1) (byteAt x 2) (byteAt x 3) ∷ pickedOf t (byteAt x 1) (byteAt x 2) (byteAt x 3) (byteAt x 0)
+    ∷ pickedOf t (byteAt x 2) (byteAt x 3) (byteAt x 0) (byteAt x 1) ∷ pickedOf t (byteAt x 3) (byteAt x 0) (byteAt x 1) (byteAt x 2) ∷ [])
+unfolding shiftedBy
+shifted-words x =
+    rw (
+      sub-picked (byteAt x 0) (byteAt x 1) (byteAt x 2) (byteAt x 3),
+      sub-picked (byteAt x 1) (byteAt x 2) (byteAt x 3) (byteAt x 0),
+      sub-picked (byteAt x 2) (byteAt x 3) (byteAt x 0) (byteAt x 1),
+      sub-picked (byteAt x 3) (byteAt x 0) (byteAt x 1) (byteAt x 2),
+    ) refl
+
+pub shifted-table : (t x : List ℕ) → t ≡ mixingTable → blockOf (shiftedBy t x) ≡ shiftRows (substitute sbox (blockOf x))
+unfolding blockOf
+shifted-table t x e =
+    ap (λ u. blockOf (shiftedBy u x)) e ∙ ap blockOf (shifted-words x) ∙ shifted-block sbox sbox-bytes (byteAt x 0) (byteAt x 1) (byteAt x 2) (byteAt x 3)
+
+pub unshifted-table : (v x : List ℕ) → v ≡ invSbox → blockOf (unshiftedBy v x) ≡ substitute invSbox (invShiftRows (blockOf x))
+unfolding unshiftedBy blockOf
+unshifted-table v x e = ap (λ u. blockOf (unshiftedBy u x)) e ∙ unshifted-block invSbox invSbox-bytes (byteAt x 0) (byteAt x 1) (byteAt x 2) (byteAt x 3)
+
+pub unmixed-table : (u x : List ℕ) → u ≡ unmixingTable → blockOf (unmixedBy u x) ≡ invMixColumns (blockOf x)
+unfolding unmixedBy blockOf
+unmixed-table u x e = ap (λ v. blockOf (unmixedBy v x)) e ∙ unmixing-block (byteAt x 0) (byteAt x 1) (byteAt x 2) (byteAt x 3)

@@ -1,3 +1,2 @@
 pub mod Block
-pub mod Cbc
-pub mod Cmac
+pub mod ByTables

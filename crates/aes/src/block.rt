@@ -1,11 +1,8 @@
 // The block, both ways (FIPS 197, sections 5.1 and 5.3), over `words`. The tables are loaded once at an entry and lent on.
 ghost use mathlib.Core.Path.{_≡_};
-ghost use Prim.Native.Nat.{_%_};
-ghost use Rattle.base.specs.Bytes.{byteAt};
-ghost use Rattle.sbox.specs.Tables.{sbox, invSbox};
-ghost use Rattle.sbox.specs.Words.{mixingTable, unmixingTable};
-ghost use Rattle.aes.specs.Block.{xorBlock, substitute, shiftRows, invShiftRows, mixColumns, invMixColumns, addRoundKey, cipher, invCipher};
-ghost use Rattle.words.specs.Words.{blockOf, pickedOf};
+ghost use Rattle.aes.specs.Block.{xorBlock, addRoundKey, cipher, invCipher};
+ghost use Rattle.aes.specs.ByTables.{withKey, mixedBy, subBy, subColumn, shiftedBy, Turns, Enciphers, unshiftedBy, unmixedBy, TurnsBack, Deciphers};
+ghost use Rattle.words.specs.Words.{blockOf};
 
 // Two blocks summed (5.1.4).
 pub fn xor_block(a: [u8; 16], b: [u8; 16]) -> [u8; 16]
@@ -22,7 +19,7 @@ pub fn xor_block(a: [u8; 16], b: [u8; 16]) -> [u8; 16]
 
 // AddRoundKey (5.1.4).
 fn with_key(s: [u32; 4], k: [u8; 16]) -> [u32; 4]
-    ensures { λ r. ⌜ blockOf r ≡ addRoundKey (blockOf s) k ⌝ }
+    ensures { λ r. ⌜ (r ≡ withKey s k) × (blockOf r ≡ addRoundKey (blockOf s) k) ⌝ }
 {
     let w = words::columns(k);
     [s[0] ^ w[0], s[1] ^ w[1], s[2] ^ w[2], s[3] ^ w[3]]
@@ -30,40 +27,44 @@ fn with_key(s: [u32; 4], k: [u8; 16]) -> [u32; 4]
 
 // SubBytes, ShiftRows and MixColumns at once (5.1.1 to 5.1.3).
 fn mix_columns(t: &[u32; 256], s: [u32; 4]) -> [u32; 4]
-    requires { ⌜ now t ≡ mixingTable ⌝ }
-    ensures { λ r. ⌜ blockOf r ≡ mixColumns (shiftRows (substitute sbox (blockOf s))) ⌝ }
+    ensures { λ r. ⌜ r ≡ mixedBy (now (t .entry)) s ⌝ }
 {
-    let a = words::column(t, s[0], s[1], s[2], s[3]);
-    let b = words::column(t, s[1], s[2], s[3], s[0]);
-    let c = words::column(t, s[2], s[3], s[0], s[1]);
-    let d = words::column(t, s[3], s[0], s[1], s[2]);
-    [a, b, c, d]
+    let a = s[0];
+    let b = s[1];
+    let c = s[2];
+    let d = s[3];
+    let w = words::column(t, a, b, c, d);
+    let x = words::column(t, b, c, d, a);
+    let y = words::column(t, c, d, a, b);
+    let z = words::column(t, d, a, b, c);
+    [w, x, y, z]
 }
 
 // InvMixColumns (5.3.3).
 fn unmix_columns(u: &[u32; 256], s: [u32; 4]) -> [u32; 4]
-    requires { ⌜ now u ≡ unmixingTable ⌝ }
-    ensures { λ r. ⌜ blockOf r ≡ invMixColumns (blockOf s) ⌝ }
+    ensures { λ r. ⌜ r ≡ unmixedBy (now (u .entry)) s ⌝ }
 {
-    let a = words::column(u, s[0], s[0], s[0], s[0]);
-    let b = words::column(u, s[1], s[1], s[1], s[1]);
-    let c = words::column(u, s[2], s[2], s[2], s[2]);
-    let d = words::column(u, s[3], s[3], s[3], s[3]);
-    [a, b, c, d]
+    let a = s[0];
+    let b = s[1];
+    let c = s[2];
+    let d = s[3];
+    let w = words::column(u, a, a, a, a);
+    let x = words::column(u, b, b, b, b);
+    let y = words::column(u, c, c, c, c);
+    let z = words::column(u, d, d, d, d);
+    [w, x, y, z]
 }
 
 // A byte through the S-box, which is row 1 of its word.
 fn sub(t: &[u32; 256], x: u32) -> u8
-    requires { ⌜ now t ≡ mixingTable ⌝ }
-    ensures { λ r. ⌜ r ≡ byteAt sbox (x % 256) ⌝ }
+    ensures { λ r. ⌜ r ≡ subBy (now (t .entry)) x ⌝ }
 {
     (t[x as usize % 256] / 256 % 256) as u8
 }
 
 // The S-box's bytes for row 0 of a, row 1 of b, row 2 of c and row 3 of d.
 fn sub_column(t: &[u32; 256], a: u32, b: u32, c: u32, d: u32) -> u32
-    requires { ⌜ now t ≡ mixingTable ⌝ }
-    ensures { λ r. ⌜ r ≡ pickedOf sbox a b c d ⌝ }
+    ensures { λ r. ⌜ r ≡ subColumn (now (t .entry)) a b c d ⌝ }
 {
     let w = sub(t, a);
     let x = sub(t, b / 256);
@@ -74,48 +75,51 @@ fn sub_column(t: &[u32; 256], a: u32, b: u32, c: u32, d: u32) -> u32
 
 // SubBytes, then ShiftRows (5.1.1, 5.1.2).
 fn sub_shift(t: &[u32; 256], s: [u32; 4]) -> [u32; 4]
-    requires { ⌜ now t ≡ mixingTable ⌝ }
-    ensures { λ r. ⌜ blockOf r ≡ shiftRows (substitute sbox (blockOf s)) ⌝ }
+    ensures { λ r. ⌜ r ≡ shiftedBy (now (t .entry)) s ⌝ }
 {
-    let a = sub_column(t, s[0], s[1], s[2], s[3]);
-    let b = sub_column(t, s[1], s[2], s[3], s[0]);
-    let c = sub_column(t, s[2], s[3], s[0], s[1]);
-    let d = sub_column(t, s[3], s[0], s[1], s[2]);
-    [a, b, c, d]
+    let a = s[0];
+    let b = s[1];
+    let c = s[2];
+    let d = s[3];
+    let w = sub_column(t, a, b, c, d);
+    let x = sub_column(t, b, c, d, a);
+    let y = sub_column(t, c, d, a, b);
+    let z = sub_column(t, d, a, b, c);
+    [w, x, y, z]
 }
 
 // InvShiftRows, then InvSubBytes (5.3.1, 5.3.2).
 fn shift_sub(v: &[u8; 256], s: [u32; 4]) -> [u32; 4]
-    requires { ⌜ now v ≡ invSbox ⌝ }
-    ensures { λ r. ⌜ blockOf r ≡ substitute invSbox (invShiftRows (blockOf s)) ⌝ }
+    ensures { λ r. ⌜ r ≡ unshiftedBy (now (v .entry)) s ⌝ }
 {
-    let a = words::picked(v, s[0], s[3], s[2], s[1]);
-    let b = words::picked(v, s[1], s[0], s[3], s[2]);
-    let c = words::picked(v, s[2], s[1], s[0], s[3]);
-    let d = words::picked(v, s[3], s[2], s[1], s[0]);
-    [a, b, c, d]
+    let a = s[0];
+    let b = s[1];
+    let c = s[2];
+    let d = s[3];
+    let w = words::picked(v, a, d, c, b);
+    let x = words::picked(v, b, a, d, c);
+    let y = words::picked(v, c, b, a, d);
+    let z = words::picked(v, d, c, b, a);
+    [w, x, y, z]
 }
 
 // One whole round (5.1).
 fn round(t: &[u32; 256], s: [u32; 4], k: [u8; 16]) -> [u32; 4]
-    requires { ⌜ now t ≡ mixingTable ⌝ }
-    ensures { λ r. ⌜ blockOf r ≡ addRoundKey (mixColumns (shiftRows (substitute sbox (blockOf s)))) k ⌝ }
+    ensures { λ r. ⌜ Turns (now (t .entry)) s k r ⌝ }
 {
     with_key(mix_columns(t, s), k)
 }
 
 // One round back (5.3).
 fn round_back(v: &[u8; 256], u: &[u32; 256], s: [u32; 4], k: [u8; 16]) -> [u32; 4]
-    requires { ⌜ (now v ≡ invSbox) × (now u ≡ unmixingTable) ⌝ }
-    ensures { λ r. ⌜ blockOf r ≡ invMixColumns (addRoundKey (substitute invSbox (invShiftRows (blockOf s))) k) ⌝ }
+    ensures { λ r. ⌜ TurnsBack (now (v .entry)) (now (u .entry)) s k r ⌝ }
 {
     unmix_columns(u, with_key(shift_sub(v, s), k))
 }
 
-// The cipher on one block, with a loaded table.
+// The cipher on one block, by a lent table of words; with `sbox::mixing` it is the standard's.
 pub fn encrypt_with(t: &[u32; 256], w: &[[u8; 16]; 11], s: [u8; 16]) -> [u8; 16]
-    requires { ⌜ now t ≡ mixingTable ⌝ }
-    ensures { λ r. ⌜ r ≡ cipher (now (w .entry)) s ⌝ }
+    ensures { λ r. ⌜ Enciphers (now (t .entry)) (now (w .entry)) s r ⌝ }
 {
     let first = w[0];
     let mut x = with_key(words::columns(s), first);
@@ -138,10 +142,9 @@ pub fn encrypt(w: &[[u8; 16]; 11], s: [u8; 16]) -> [u8; 16]
     encrypt_with(&t, w, s)
 }
 
-// The inverse cipher on one block, with loaded tables.
+// The inverse cipher on one block, by lent tables; with `sbox::backward` and `sbox::unmixing` it is the standard's.
 pub fn decrypt_with(v: &[u8; 256], u: &[u32; 256], w: &[[u8; 16]; 11], s: [u8; 16]) -> [u8; 16]
-    requires { ⌜ (now v ≡ invSbox) × (now u ≡ unmixingTable) ⌝ }
-    ensures { λ r. ⌜ r ≡ invCipher (now (w .entry)) s ⌝ }
+    ensures { λ r. ⌜ Deciphers (now (v .entry)) (now (u .entry)) (now (w .entry)) s r ⌝ }
 {
     let last = w[10];
     let mut x = with_key(words::columns(s), last);

@@ -1,20 +1,9 @@
-// The AES and CMAC floor: AES-128 (FIPS 197), CBC (SP 800-38A), CMAC (SP 800-38B). A caller expands a key
-// once (`key_expansion`) and lends the round keys to every call.
+// The AES floor: AES-128 on a block, both ways (FIPS 197). A caller expands a key once (`key_expansion`) and lends the round keys to
+// every call; one that takes many blocks loads the tables of `sbox` once and lends them too.
 mod block;
-mod cbc;
-mod mac;
 
 pub use block::decrypt;
+pub use block::decrypt_with;
 pub use block::encrypt;
-pub use cbc::cbc_decrypt;
-pub use cbc::cbc_encrypt;
-pub use mac::cmac_of;
-pub use mac::mac_of;
-
-// What chaining over a lent buffer came to.
-pub enum Chained {
-    // Every block was done.
-    Done,
-    // The length is no whole number of blocks: the buffer is as it was.
-    Ragged,
-}
+pub use block::encrypt_with;
+pub use block::xor_block;

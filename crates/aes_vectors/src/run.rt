@@ -13,10 +13,7 @@ fn same_front(line: &[u8], k: usize, room: &[u8], n: usize) -> bool {
     if room.len() / 2 < n {
         return words::differs(line, b"too long");
     }
-    if words::is(line, k, &room[..n * 2]) {
-        return true;
-    }
-    words::differs(line, &room[..n * 2])
+    words::compared_word(line, k, &room[..n * 2])
 }
 
 fn lay_one(k: [u8; 16], room: &mut [u8], at: usize) {
@@ -70,10 +67,10 @@ struct Way {
 
 fn chain(w: &[[u8; 16]; 11], back: bool, iv: [u8; 16], buf: &mut [u8]) {
     if back {
-        aes::cbc_decrypt(w, iv, buf);
+        cbc::cbc_decrypt(w, iv, buf);
         return;
     }
-    aes::cbc_encrypt(w, iv, buf);
+    cbc::cbc_encrypt(w, iv, buf);
 }
 
 fn through(w: &[[u8; 16]; 11], way: Way, buf: &mut [u8]) {
@@ -138,15 +135,12 @@ fn tag_is_not(tag: [u8; 16], line: &[u8]) -> bool {
     if words::field(line, 4, &mut theirs) != 16 {
         return words::differs(line, b"no tag");
     }
-    if base::alike(&tag, &theirs) {
-        return words::differs(line, b"the tag matches");
-    }
-    true
+    words::unlike(line, &theirs, &tag)
 }
 
 // The tag of a message is the line's, or, where it must not be, is not.
 fn tag_agrees(w: &[[u8; 16]; 11], line: &[u8], message: &[u8], good: bool) -> bool {
-    let tag = aes::cmac_of(w, message);
+    let tag = cmac::cmac_of(w, message);
     if good {
         return same(line, 4, &tag);
     }

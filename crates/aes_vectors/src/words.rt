@@ -1,6 +1,10 @@
 // The words of a line, one space between two, counted from 0.
+ghost use mathlib.Core.Bool.{false, true};
+ghost use mathlib.Core.Path.{_≡_};
 ghost use Prim.Native.Nat.{_≤_};
 ghost use lib.ListN.{length};
+ghost use Rattle.base.specs.Bytes.{same};
+ghost use Rattle.base.specs.Decide.{pick};
 use libc::STDOUT_FILENO;
 use lines::Decoded;
 
@@ -57,7 +61,9 @@ fn bytes(text: &[u8], room: &mut [u8]) -> usize {
 }
 
 // Prints a line's name and what we have to say of it.
-pub fn differs(line: &[u8], what: &[u8]) -> bool {
+pub fn differs(line: &[u8], what: &[u8]) -> bool
+    ensures { λ r. ⌜ r ≡ false ⌝ }
+{
     let a = start(line, 1);
     let e = end(line, a, b' ');
     io::write_all(STDOUT_FILENO, &line[a..e]);
@@ -65,4 +71,31 @@ pub fn differs(line: &[u8], what: &[u8]) -> bool {
     io::write_all(STDOUT_FILENO, what);
     io::write_all(STDOUT_FILENO, b"\n");
     false
+}
+
+// Whether ours is what the line expects; else ours is printed.
+fn compared(line: &[u8], expected: &[u8], ours: &[u8]) -> bool
+    ensures { λ r. ⌜ r ≡ same (now (expected .entry)) (now (ours .entry)) ⌝ }
+{
+    if base::alike(expected, ours) {
+        return true;
+    }
+    differs(line, ours)
+}
+
+// The same with a word of the line.
+pub fn compared_word(line: &[u8], k: usize, ours: &[u8]) -> bool {
+    let a = start(line, k);
+    let e = end(line, a, b' ');
+    compared(line, &line[a..e], ours)
+}
+
+// Whether ours is not what the line has; else that is said.
+pub fn unlike(line: &[u8], theirs: &[u8], ours: &[u8]) -> bool
+    ensures { λ r. ⌜ r ≡ pick (same (now (theirs .entry)) (now (ours .entry))) false true ⌝ }
+{
+    if base::alike(theirs, ours) {
+        return differs(line, b"the tag matches");
+    }
+    true
 }

@@ -9,11 +9,11 @@ ghost use mathlib.Core.Path.{_≡_};
 ghost use Rattle.an12196.specs.Counts.{countedOf};
 ghost use Rattle.base.specs.Bytes.{same};
 use authentication::Proof;
+use closing::Closed;
 use libc::STDOUT_FILENO;
-use messaging::Closed;
 use messaging::Mode;
-use messaging::Opened;
 use messaging::Session;
+use opening::Opened;
 use sdm::Tap;
 
 // How many values were compared, and how many differ.
@@ -150,7 +150,7 @@ fn open_changed(s: Session, cmd: u8, x: &[u8], room: &mut [u8]) -> Opened {
     bad[1] = bad[1] ^ 1;
     if x.len() <= 64 {
         let e = x.len();
-        return messaging::open(s, Mode::Full, cmd, &bad[..e], 1, true, room);
+        return opening::open(s, Mode::Full, cmd, &bad[..e], 1, true, room);
     }
     Opened::TooLong
 }
@@ -158,7 +158,7 @@ fn open_changed(s: Session, cmd: u8, x: &[u8], room: &mut [u8]) -> Opened {
 // A command in Full opens to its plain data, and with one bit changed its MAC is wrong.
 fn command(t: Tally, name: &[u8], s: Session, cmd: u8, x: &[u8], plain: &[u8]) -> Tally {
     let mut room = [0u8; 256];
-    let o = messaging::open(s, Mode::Full, cmd, x, 1, true, &mut room);
+    let o = opening::open(s, Mode::Full, cmd, x, 1, true, &mut room);
     let t1 = count(t, name, gives(o, &room, plain));
     let p = open_changed(s, cmd, x, &mut room);
     count(t1, name, is_wrong_mac(p))
@@ -167,7 +167,7 @@ fn command(t: Tally, name: &[u8], s: Session, cmd: u8, x: &[u8], plain: &[u8]) -
 // A reply with no data in Full is its MAC alone.
 fn reply(t: Tally, name: &[u8], s: Session, theirs: &[u8]) -> Tally {
     let mut room = [0u8; 256];
-    match messaging::close(s, Mode::Full, 0, &mut room, 0) {
+    match closing::close(s, Mode::Full, 0, &mut room, 0) {
         Closed::Reply(n) => {
             if n <= 256 {
                 return compare(t, name, &room[..n], theirs);

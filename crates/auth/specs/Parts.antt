@@ -1,24 +1,18 @@
--- 01, "Authentication and messages (9.1, 10.4)": the checks of 71, 77 and part two, their replies, and the session.
+-- 01, "Authentication and messages (9.1, 10.4)": the checks of 71 and 77, their part one, and its reply.
 use mathlib.Core.Bool.{Bool, true, false}
 use mathlib.Core.List.{List, _++_}
-use Prim.Native.Nat.{ℕ, _+_, _-_, _/_, _%_}
+use Prim.Native.Nat.{ℕ, min, _+_, _-_, _/_, _%_}
 use lib.Dec.{eqb, ltb}
 use lib.ListN.{length, take, drop, replicate}
 use Rattle.base.specs.Decide.{pick}
-use Rattle.base.specs.Bytes.{byteAt}
-use Rattle.authentication.specs.declared.Proof.{Proof}
-use Rattle.authentication.specs.declared.Proof.the-variants.{Right, NotThirtyTwo, WrongRndB}
-use Rattle.authentication.specs.Authentication.{enciphered, deciphered, proofOf, proofStatus, firstReply, nextReply}
-use Rattle.session_keys.specs.Keys.{encKey, macKey}
+use Rattle.base.specs.Bytes.{byteAt, laid}
+use Rattle.authentication.specs.Authentication.{enciphered}
+use Rattle.order.specs.Order.{keyStatus}
 use Rattle.state.specs.declared.Live.{Live}
 use Rattle.state.specs.declared.Pending.{Pending}
 use Rattle.state.specs.declared.Tag.{Tag}
-use Rattle.state.specs.State.{keyIn, noLive, noPending, talking}
-use Rattle.answer.specs.Answer.{Answer, given, refusal}
-
--- key byte over 63: 919E; key over 4: 9140; else 0
-unfoldable pub keyStatus : ℕ → ℕ
-keyStatus k = pick (ltb 63 k) 0x919E (pick (ltb 4 k) 0x9140 0)
+use Rattle.state.specs.State.{keyIn, noLive, talking}
+use Rattle.replies.specs.Answer.{Answer, given, refusal}
 
 -- 71 behind its lengths: key byte; PCDcap2.1 bit 1 set 919D; PICC level 9140
 unfoldable pub valuesStatus : List ℕ → Bool → ℕ
@@ -37,6 +31,10 @@ firstStatus x application =
 -- 77, in order: length not 1 917E; no session 919D; key byte
 unfoldable pub nextStatus : List ℕ → Bool → ℕ
 nextStatus x live = pick (eqb (length x) 1) (pick live (keyStatus (byteAt x 0)) 0x919D) 0x917E
+
+-- of the code, not the paper: a text given out of a room of 258 zeros; one of at most 256 bytes is given whole
+unfoldable pub roomGiven : Tag → ℕ → List ℕ → Answer
+roomGiven t status e = given t status (take (min (length e) 256) (laid e 0 (replicate 258 0)))
 
 -- part one accepted gives E(Kx; RndB), 91AF, and ends the old session
 unfoldable pub begun : Tag → Pending → Answer
@@ -62,33 +60,3 @@ partOneFirst t x random =
 unfoldable pub partOneNext : Tag → List ℕ → List ℕ → Answer
 partOneNext t x random =
     pick (eqb (nextStatus x (t .live .on)) 0) (begun t (pendingNext (t .live) x random)) (refusal t (nextStatus x (t .live .on)))
-
--- the session that part two opens, with a TI and a CmdCtr
-unfoldable pub sessionFrom : Pending → List ℕ → List ℕ → List ℕ → ℕ → Live
-sessionFrom p kx a ti counter =
-    record { on = true; key = p .key; enc = encKey kx a (p .«rnd_b»); mac = macKey kx a (p .«rnd_b»); ti = ti; counter = counter }
-
--- part two of 71 accepted: TI, RndA', PDcap2, PCDcap2; the session has a new TI and CmdCtr 0 (9.1.2, 9.1.5)
-unfoldable pub enteredFirst : Tag → List ℕ → List ℕ → List ℕ → Answer
-enteredFirst t kx a random =
-    let ti = drop 16 random in
-    given (talking t (sessionFrom (t .pending) kx a ti 0) noPending) 0x9100 (firstReply kx ti a (t .pending .cap))
-
--- part two of 77 accepted: RndA'; TI and CmdCtr are the kept ones
-unfoldable pub enteredNext : Tag → List ℕ → List ℕ → Answer
-enteredNext t kx a =
-    given (talking t (sessionFrom (t .pending) kx a (t .pending .ti) (t .pending .counter)) noPending) 0x9100 (nextReply kx a)
-
-unfoldable pub entered : Tag → List ℕ → List ℕ → List ℕ → Answer
-entered t kx a random = pick (t .pending .first) (enteredFirst t kx a random) (enteredNext t kx a)
-
--- part two: length not 32 917E; wrong RndB' 91AE
-abbrev pub byProof : Tag → List ℕ → List ℕ → List ℕ → Proof → Answer
-byProof t kx x random Right = entered t kx (take 16 (deciphered kx x)) random
-byProof t kx x random NotThirtyTwo = refusal t (proofStatus NotThirtyTwo)
-byProof t kx x random WrongRndB = refusal t (proofStatus WrongRndB)
-
-unfoldable pub partTwoAnswer : Tag → List ℕ → List ℕ → Answer
-partTwoAnswer t x random =
-    let kx = keyIn (t .secrets .keys) (t .pending .key) in
-    byProof t kx x random (proofOf kx (t .pending .«rnd_b») x)

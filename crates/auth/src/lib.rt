@@ -1,34 +1,20 @@
-// Authentication (9.1.5, 9.1.6, 10.4): part one of 71 and of 77, and part two.
+// Authentication (9.1.5, 9.1.6, 10.4): part one of 71 and of 77, and what both parts leave.
 ghost use mathlib.Core.Path.{_≡_};
 ghost use Prim.Native.Nat.{_≤_};
-ghost use lib.ListN.{length, take, drop};
+ghost use lib.ListN.{length, take};
 ghost use Rattle.state.specs.State.{talking};
-ghost use Rattle.answer.specs.Answer.{Gives, given};
-ghost use Rattle.auth.specs.Parts.{keyStatus, valuesStatus, firstStatus, nextStatus, begun, capOf, partOneFirst, partOneNext, sessionFrom, enteredFirst, enteredNext, entered, partTwoAnswer};
-use answer::Done;
-use authentication::Proof;
+ghost use Rattle.replies.specs.Answer.{Gives};
+ghost use Rattle.auth.specs.Parts.{valuesStatus, firstStatus, nextStatus, roomGiven, begun, capOf, partOneFirst, partOneNext};
+use replies::Done;
 use state::Live;
 use state::Pending;
 use state::Tag;
-
-// 0, or the status of a key byte: over 63 919E, over 4 9140.
-pub fn key_status(k: u8) -> u16
-    ensures { λ r. ⌜ r ≡ keyStatus k ⌝ }
-{
-    if 63 < k {
-        return 0x919E;
-    }
-    if 4 < k {
-        return 0x9140;
-    }
-    0
-}
 
 // 0, or what refuses part one of 71 behind its lengths.
 fn first_values(x: &[u8], application: bool) -> u16
     ensures { λ r. ⌜ r ≡ valuesStatus (now (x .entry)) application ⌝ }
 {
-    let k = key_status(base::at(x, 0));
+    let k = order::key_status(base::at(x, 0));
     if k != 0 {
         return k;
     }
@@ -65,7 +51,7 @@ fn next_status(x: &[u8], live: bool) -> u16
 {
     if x.len() == 1 {
         if live {
-            return key_status(base::at(x, 0));
+            return order::key_status(base::at(x, 0));
         }
         return 0x919D;
     }
@@ -91,17 +77,8 @@ fn rnd_b(random: [u8; 20]) -> [u8; 16]
     r
 }
 
-// TI: bytes 16 to 19.
-fn ti_of(random: [u8; 20]) -> [u8; 4]
-    ensures { λ r. ⌜ r ≡ drop 16 random ⌝ }
-{
-    let mut r = [0u8; 4];
-    base::put(&random[16..20], &mut r, 0);
-    r
-}
-
 // The tag with another session and pending part, and no tap.
-fn talking(tag: Tag, l: Live, p: Pending) -> Tag
+pub fn talking(tag: Tag, l: Live, p: Pending) -> Tag
     ensures { λ r. ⌜ r ≡ talking tag l p ⌝ }
 {
     let mut t = tag;
@@ -112,14 +89,13 @@ fn talking(tag: Tag, l: Live, p: Pending) -> Tag
     t
 }
 
-// A status with bytes as they are.
-fn reply(tag: Tag, status: u16, e: &[u8]) -> Done
-    requires { ⌜ length (now e) ≤ 256 ⌝ }
-    ensures { λ r. ⌜ Gives (given tag status (now (e .entry))) r ⌝ }
+// A status with bytes as they are, up to 256.
+pub fn reply(tag: Tag, status: u16, e: &[u8]) -> Done
+    ensures { λ r. ⌜ Gives (roomGiven tag status (now (e .entry))) r ⌝ }
 {
     let mut bytes = [0u8; 258];
     base::put(e, &mut bytes, 0);
-    answer::give(tag, status, bytes, e.len())
+    replies::give(tag, status, bytes, e.len())
 }
 
 // Part one accepted: E(Kx; RndB), 91AF; the old session ends.
@@ -149,7 +125,7 @@ pub fn first(tag: Tag, x: &[u8], random: [u8; 20]) -> Done
         };
         return begin(tag, p);
     }
-    answer::refuse(tag, s)
+    replies::refuse(tag, s)
 }
 
 // Part one of 77: TI and CmdCtr are kept.
@@ -170,74 +146,5 @@ pub fn next(tag: Tag, x: &[u8], random: [u8; 20]) -> Done
         };
         return begin(tag, p);
     }
-    answer::refuse(tag, s)
-}
-
-// The session that part two opens.
-fn session(p: Pending, kx: [u8; 16], a: [u8; 16], ti: [u8; 4], counter: u16) -> Live
-    ensures { λ r. ⌜ r ≡ sessionFrom p kx a ti counter ⌝ }
-{
-    let b = p.rnd_b;
-    let k = session_keys::session_keys(kx, a, b);
-    let enc = k.enc;
-    let mac = k.mac;
-    Live {
-        on: true,
-        key: p.key,
-        enc,
-        mac,
-        ti,
-        counter,
-    }
-}
-
-// Part two of 71 accepted: TI, RndA', PDcap2 and PCDcap2; CmdCtr is 0.
-fn enter_first(tag: Tag, kx: [u8; 16], a: [u8; 16], random: [u8; 20]) -> Done
-    ensures { λ r. ⌜ Gives (enteredFirst tag kx a random) r ⌝ }
-{
-    let p = tag.pending;
-    let cap = p.cap;
-    let ti = ti_of(random);
-    let e = authentication::first_reply(kx, ti, a, cap);
-    let l = session(p, kx, a, ti, 0);
-    reply(talking(tag, l, state::no_pending()), 0x9100, &e)
-}
-
-// Part two of 77 accepted: RndA'; CmdCtr is kept.
-fn enter_next(tag: Tag, kx: [u8; 16], a: [u8; 16]) -> Done
-    ensures { λ r. ⌜ Gives (enteredNext tag kx a) r ⌝ }
-{
-    let p = tag.pending;
-    let ti = p.ti;
-    let e = authentication::next_reply(kx, a);
-    let l = session(p, kx, a, ti, p.counter);
-    reply(talking(tag, l, state::no_pending()), 0x9100, &e)
-}
-
-// Part two with the right RndB'.
-fn enter_right(tag: Tag, kx: [u8; 16], a: [u8; 16], random: [u8; 20]) -> Done
-    ensures { λ r. ⌜ Gives (entered tag kx a random) r ⌝ }
-{
-    if tag.pending.first {
-        return enter_first(tag, kx, a, random);
-    }
-    enter_next(tag, kx, a)
-}
-
-// Part two.
-pub fn second(tag: Tag, x: &[u8], random: [u8; 20]) -> Done
-    ensures { λ r. ⌜ Gives (partTwoAnswer tag (now (x .entry)) random) r ⌝ }
-{
-    let p = tag.pending;
-    let keys = tag.secrets.keys;
-    let kx = state::key_of(keys, p.key);
-    let b = p.rnd_b;
-    let r = authentication::check_part_two(kx, b, x);
-    let a = r.a;
-    let proof = r.proof;
-    match proof {
-        Proof::NotThirtyTwo => answer::refuse(tag, 0x917E),
-        Proof::WrongRndB => answer::refuse(tag, 0x91AE),
-        Proof::Right => enter_right(tag, kx, a, random),
-    }
+    replies::refuse(tag, s)
 }

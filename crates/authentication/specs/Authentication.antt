@@ -5,7 +5,7 @@ use lib.Dec.{eqb}
 use lib.ListN.{length, take, drop, replicate}
 use Rattle.base.specs.Decide.{pick}
 use Rattle.base.specs.Bytes.{same}
-use Rattle.aes.specs.Cbc.{cbcOut, cbcBack}
+use Rattle.cbc.specs.Cbc.{cbcOut, cbcBack}
 use Rattle.key_expansion.specs.Keys.{keyExpansion}
 use Rattle.authentication.specs.declared.Proof.{Proof}
 use Rattle.authentication.specs.declared.Proof.the-variants.{Right, NotThirtyTwo, WrongRndB}

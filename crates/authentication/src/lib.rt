@@ -24,7 +24,7 @@ fn encipher_one(kx: [u8; 16], x: [u8; 16]) -> [u8; 16]
 {
     let w = key_expansion::expand(kx);
     let mut b = x;
-    aes::cbc_encrypt(&w, [0u8; 16], &mut b);
+    cbc::cbc_encrypt(&w, [0u8; 16], &mut b);
     b
 }
 
@@ -34,7 +34,7 @@ fn encipher_two(kx: [u8; 16], x: [u8; 32]) -> [u8; 32]
 {
     let w = key_expansion::expand(kx);
     let mut b = x;
-    aes::cbc_encrypt(&w, [0u8; 16], &mut b);
+    cbc::cbc_encrypt(&w, [0u8; 16], &mut b);
     b
 }
 
@@ -63,7 +63,7 @@ fn decipher(kx: [u8; 16], x: &[u8]) -> [u8; 32]
     let w = key_expansion::expand(kx);
     let mut b = [0u8; 32];
     base::put(x, &mut b, 0);
-    aes::cbc_decrypt(&w, [0u8; 16], &mut b);
+    cbc::cbc_decrypt(&w, [0u8; 16], &mut b);
     b
 }
 

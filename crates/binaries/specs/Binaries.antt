@@ -5,18 +5,18 @@ use Prim.Native.Nat.{ℕ, _+_, _-_, _%_}
 use lib.Dec.{eqb, leb, ltb}
 use lib.ListN.{length}
 use Rattle.base.specs.Decide.{pick, and}
-use Rattle.fields.specs.declared.Reading.{Reading}
+use Rattle.spans.specs.declared.Reading.{Reading}
 use Rattle.messaging.specs.declared.Mode.{Mode}
 use Rattle.messaging.specs.declared.Mode.the-variants.{Plain, Mac, Full}
 use Rattle.state.specs.declared.Live.{Live}
 use Rattle.state.specs.declared.Tag.{Tag}
-use Rattle.state.specs.declared.Access.{Access}
-use Rattle.state.specs.declared.Access.the-variants.{In, Never, Denied}
+use Rattle.access.specs.declared.Access.{Access}
+use Rattle.access.specs.declared.Access.the-variants.{In, Never, Denied}
 use Rattle.state.specs.State.{sizeOf, readingIn, filed}
-use Rattle.state.specs.Access.{accessFor}
-use Rattle.answer.specs.Answer.{Answer, given, refusal, usedUp, afterwards}
-use Rattle.answer.specs.Taps.{isTap, shown}
-use Rattle.answer.specs.Filing.{storedIso, tapRead, withBytes}
+use Rattle.access.specs.Access.{accessFor}
+use Rattle.replies.specs.Answer.{Answer, given, refusal, usedUp, afterwards}
+use Rattle.file_parts.specs.Filing.{storedIso, withBytes}
+use Rattle.taps.specs.Taps.{isTap, shown, tapRead}
 
 -- a mode other than Plain in session is refused
 abbrev pub isPlain : Mode → Bool

@@ -3,12 +3,12 @@ ghost use mathlib.Core.Path.{_≡_};
 ghost use mathlib.Core.Bool.{not};
 ghost use lib.Dec.{eqb};
 ghost use Rattle.base.specs.Decide.{pick, and};
-ghost use Rattle.answer.specs.Answer.{Gives};
+ghost use Rattle.replies.specs.Answer.{Gives};
 ghost use Rattle.binaries.specs.Binaries.{isPlain, plainly, mayPass, mayUse, tapStatus, isoPart, readRange, readBinary, updateRange, updatedBinary};
-use answer::Done;
-use fields::Reading;
+use access::Access;
 use messaging::Mode;
-use state::Access;
+use replies::Done;
+use spans::Reading;
 use state::Live;
 use state::Tag;
 
@@ -36,7 +36,7 @@ fn granted_plain(a: Access) -> bool
 fn may(l: Live, a: Access) -> bool
     ensures { λ r. ⌜ r ≡ mayPass l a ⌝ }
 {
-    if answer::used_up(l.on, l.counter) {
+    if replies::used_up(l.on, l.counter) {
         return false;
     }
     granted_plain(a)
@@ -49,7 +49,7 @@ fn may_use(tag: Tag, ins: u8) -> bool
     let rules = tag.files.rules;
     let lens = tag.files.lens;
     let h = state::head_of(&rules, lens, tag.place.file);
-    may(tag.live, state::access_for(ins, tag.live, h))
+    may(tag.live, access::access_for(ins, tag.live, h))
 }
 
 // A tap's status, as an ISO one.
@@ -66,11 +66,11 @@ fn tap_status(s: u16) -> u16
 fn iso_part(tag: Tag, reading: Reading, n: u8, at: usize, count: usize, random: [u8; 20]) -> Done
     ensures { λ r. ⌜ Gives (isoPart tag reading n at count random) r ⌝ }
 {
-    if answer::is_tap(reading.settings.head.sdm, tag.live.on) {
-        let s = answer::show(tag, reading, true, random);
-        return answer::read_tap(tag, s, 0x9000, tap_status(s.status), at, count);
+    if taps::is_tap(reading.settings.head.sdm, tag.live.on) {
+        let s = taps::show(tag, reading, true, random);
+        return taps::read_tap(tag, s, 0x9000, tap_status(s.status), at, count);
     }
-    answer::read_stored_iso(tag, n, at, count)
+    file_parts::read_stored_iso(tag, n, at, count)
 }
 
 // Le 00 asks for all.
@@ -89,11 +89,11 @@ fn read_range(tag: Tag, n: u8, at: usize, le: usize, random: [u8; 20]) -> Done
 {
     let size = state::file_size(n);
     if size <= at {
-        return answer::refuse(tag, 0x6A86);
+        return replies::refuse(tag, 0x6A86);
     }
     let left = size - at;
     if left < le {
-        return answer::refuse(tag, 0x6C00 + (left % 256) as u16);
+        return replies::refuse(tag, 0x6C00 + (left % 256) as u16);
     }
     let reading = state::reading_of(tag.files, n);
     iso_part(tag, reading, n, at, all_or(le, left), random)
@@ -106,7 +106,7 @@ pub fn read_binary(tag: Tag, at: usize, le: usize, random: [u8; 20]) -> Done
     if may_use(tag, 0xAD) {
         return read_range(tag, tag.place.file, at, le, random);
     }
-    answer::refuse(tag, 0x6982)
+    replies::refuse(tag, 0x6982)
 }
 
 // An update of file n within its range.
@@ -115,15 +115,15 @@ fn update_range(tag: Tag, n: u8, at: usize, d: &[u8]) -> Done
 {
     let size = state::file_size(n);
     if size <= at {
-        return answer::refuse(tag, 0x6A86);
+        return replies::refuse(tag, 0x6A86);
     }
     if size - at < d.len() {
-        return answer::refuse(tag, 0x6A87);
+        return replies::refuse(tag, 0x6A87);
     }
     let mut t = tag;
-    let f = answer::with_bytes(t.files, n, at, d);
+    let f = file_parts::with_bytes(t.files, n, at, d);
     t.files = f;
-    answer::give(answer::after(t), 0x9000, [0; 258], 0)
+    replies::give(replies::after(t), 0x9000, [0; 258], 0)
 }
 
 // ISOUpdateBinary of the selected file.
@@ -133,5 +133,5 @@ pub fn update_binary(tag: Tag, at: usize, d: &[u8]) -> Done
     if may_use(tag, 0x8D) {
         return update_range(tag, tag.place.file, at, d);
     }
-    answer::refuse(tag, 0x6982)
+    replies::refuse(tag, 0x6982)
 }

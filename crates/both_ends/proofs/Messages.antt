@@ -13,24 +13,24 @@ use Rattle.base.specs.Decide.{and}
 use Rattle.base.specs.Bytes.{AllBytes, over, same}
 use Rattle.base.proofs.Bytes.{append-bytes, same-refl, le-or-lt}
 use Rattle.aes.specs.Block.{IsBlock}
-use Rattle.aes.specs.Cbc.{cbcOut, cbcBack}
+use Rattle.cbc.specs.Cbc.{cbcOut, cbcBack}
 use Rattle.key_expansion.specs.Keys.{keyExpansion}
 use Rattle.inverse.proofs.Inverse.{cipher-block}
 use Rattle.inverse.proofs.KeyBlocks.{keys-are}
 use Rattle.inverse.proofs.Chaining.{cbcOut-length, cbc-back-of-out}
 use Rattle.inverse.proofs.MacBlocks.{mac-length}
 use Rattle.padding.specs.Padding.{padded, paddedLength, blocks, unpad}
-use Rattle.messaging.specs.Protect.{messageMac, commandIv, replyIv, macLength, sent, signed, plain, textOf, content, macRight}
-use Rattle.aes.specs.Cmac.{mac}
-use Rattle.messaging.specs.Command.{sentCommand, partRight, lengthRight, checked, opening, answers, leaves, Opens}
-use Rattle.messaging.specs.Reply.{filled, closed, closedLength, replyRight, replyOpening}
+use Rattle.messaging.specs.Protect.{messageMac, commandVector, replyVector, commandIv, replyIv, macLength, sent, signed, plain, textOf, content, macRight}
+use Rattle.cmac.specs.Cmac.{mac}
+use Rattle.opening.specs.Command.{sentCommand, partRight, lengthRight, checked, opening, answers, leaves, Opens}
+use Rattle.closing.specs.Reply.{filled, closed, closedLength, replyRight, replyOpening}
 use Rattle.messaging.specs.declared.Session.{Session}
 use Rattle.messaging.specs.declared.Mode.{Mode}
 use Rattle.messaging.specs.declared.Mode.the-variants.{Plain, Mac, Full}
-use Rattle.messaging.specs.declared.Opened.{Opened}
-use Rattle.messaging.specs.declared.Opened.the-variants.{Data}
-use Rattle.messaging.proofs.Closing.{hidden-some, hidden-none}
-use Rattle.messaging.proofs.Opening.{opening-right}
+use Rattle.opening.specs.declared.Opened.{Opened}
+use Rattle.opening.specs.declared.Opened.the-variants.{Data}
+use Rattle.closing.proofs.Closing.{hidden-some, hidden-none}
+use Rattle.opening.proofs.Opening.{opening-right}
 use Rattle.padding.proofs.Unpadding.{padded-length}
 use Rattle.both_ends.proofs.Padding.{unpad-padded}
 
@@ -159,11 +159,11 @@ module _ (s : Session) (first : ℕ) (body : List ℕ) where
 
 -- ---- the theorems
 command-iv-block : (s : Session) → IsBlock (s .enc) → IsBlock (commandIv s)
-unfolding commandIv
+unfolding commandIv commandVector
 command-iv-block s k = cipher-block (keyExpansion (s .enc)) (keys-are (s .enc) k) _
 
 reply-iv-block : (s : Session) → IsBlock (s .enc) → IsBlock (replyIv s)
-unfolding replyIv
+unfolding replyIv replyVector
 reply-iv-block s k = cipher-block (keyExpansion (s .enc)) (keys-are (s .enc) k) _
 
 -- a command that the other side wraps, in any mode, passes length, MAC and padding and gives its data back

@@ -5,14 +5,14 @@ use Prim.Native.Nat.{ℕ, _+_, _-_}
 use lib.Dec.{eqb, leb, ltb}
 use lib.ListN.{length}
 use Rattle.base.specs.Decide.{pick, and, or}
-use Rattle.fields.specs.declared.Reading.{Reading}
+use Rattle.spans.specs.declared.Reading.{Reading}
 use Rattle.fields.specs.Fields.{three}
 use Rattle.messaging.specs.declared.Mode.{Mode}
 use Rattle.state.specs.declared.Tag.{Tag}
 use Rattle.state.specs.State.{sizeOf, readingIn, filed}
-use Rattle.answer.specs.Answer.{Answer, refusal, accepted}
-use Rattle.answer.specs.Taps.{isTap, shown}
-use Rattle.answer.specs.Filing.{stored, tapRead, withBytes}
+use Rattle.replies.specs.Answer.{Answer, refusal, accepted}
+use Rattle.file_parts.specs.Filing.{stored, withBytes}
+use Rattle.taps.specs.Taps.{isTap, shown, tapRead}
 
 -- offset at or past the end, or offset plus length past it: 919E
 unfoldable pub rangeStatus : ℕ → ℕ → ℕ → ℕ

@@ -5,11 +5,11 @@ ghost use Prim.Native.Nat.{_+_, _<_, _≤_};
 ghost use lib.Dec.{ltb};
 ghost use Rattle.base.specs.Decide.{and};
 ghost use Rattle.fields.specs.Fields.{three};
-ghost use Rattle.answer.specs.Answer.{Gives};
+ghost use Rattle.replies.specs.Answer.{Gives};
 ghost use Rattle.contents.specs.Contents.{rangeStatus, asked, wrappedPart, readData, writeStatus, writtenData};
-use answer::Done;
-use fields::Reading;
 use messaging::Mode;
+use replies::Done;
+use spans::Reading;
 use state::Tag;
 
 fn wide(b: u8) -> usize
@@ -80,11 +80,11 @@ fn wrapped_part(
 ) -> Done
     ensures { λ r. ⌜ Gives (wrappedPart tag reading n at count m random) r ⌝ }
 {
-    if answer::is_tap(reading.settings.head.sdm, tag.live.on) {
-        let s = answer::show(tag, reading, false, random);
-        return answer::read_tap(tag, s, 0x9100, s.status, at, count);
+    if taps::is_tap(reading.settings.head.sdm, tag.live.on) {
+        let s = taps::show(tag, reading, false, random);
+        return taps::read_tap(tag, s, 0x9100, s.status, at, count);
     }
-    answer::read_stored(tag, m, n, at, count)
+    file_parts::read_stored(tag, m, n, at, count)
 }
 
 // ReadData of file n; x is the command's header.
@@ -99,7 +99,7 @@ pub fn read_data(tag: Tag, n: u8, x: &[u8], m: Mode, random: [u8; 20]) -> Done
         let reading = state::reading_of(tag.files, n);
         return wrapped_part(tag, reading, n, at, asked_for(at, count, size), m, random);
     }
-    answer::refuse(tag, s)
+    replies::refuse(tag, s)
 }
 
 // 0, or what refuses a write: length 0 919E, data not that length 917E, past the end 91BE.
@@ -126,9 +126,9 @@ pub fn write_data(tag: Tag, n: u8, x: &[u8], p: &[u8], m: Mode) -> Done
     let s = write_status(at, three_at(x, 4), p.len(), state::file_size(n));
     if s == 0 {
         let mut t = tag;
-        let f = answer::with_bytes(t.files, n, at, p);
+        let f = file_parts::with_bytes(t.files, n, at, p);
         t.files = f;
-        return answer::accept(t, m, [0; 258], 0);
+        return replies::accept(t, m, [0; 258], 0);
     }
-    answer::refuse(tag, s)
+    replies::refuse(tag, s)
 }

@@ -8,11 +8,11 @@ use lib.Dec.{eqb, ltb, lit<}
 use lib.ListN.{length, take, drop, replicate, length-append}
 use lib.Seq.{take-append-seam}
 use borrow.Author.Tests.{eq-eqb, ne-eqb, le-leb, le-ltb}
-use Rattle.base.specs.Decide.{and, or}
+use Rattle.base.specs.Decide.{and, or, oneOf}
 use Rattle.base.specs.Bytes.{byteAt, AllBytes}
 use Rattle.base.proofs.Bytes.{append-bytes}
 use Rattle.aes.specs.Block.{IsBlock}
-use Rattle.aes.specs.Cbc.{cbcOut}
+use Rattle.cbc.specs.Cbc.{cbcOut}
 use Rattle.key_expansion.specs.Keys.{keyExpansion}
 use Rattle.inverse.proofs.Chaining.{cbcOut-length}
 use Rattle.inverse.proofs.Inverse.{cipher-block}
@@ -22,16 +22,18 @@ use Rattle.messaging.specs.declared.Mode.{Mode}
 use Rattle.messaging.specs.declared.Mode.the-variants.{Plain, Mac, Full}
 use Rattle.messaging.specs.declared.Session.{Session}
 use Rattle.padding.specs.Padding.{padded, paddedLength}
-use Rattle.messaging.specs.Protect.{messageMac, commandIv, sent, signed}
-use Rattle.aes.specs.Cmac.{mac}
-use Rattle.messaging.specs.Command.{sentCommand}
+use Rattle.messaging.specs.Protect.{messageMac, commandVector, commandIv, sent, signed}
+use Rattle.cmac.specs.Cmac.{mac}
+use Rattle.opening.specs.Command.{sentCommand}
 use Rattle.padding.proofs.Unpadding.{padded-length}
 use Rattle.state.specs.declared.Tag.{Tag}
-use Rattle.answer.specs.Answer.{Answer}
+use Rattle.replies.specs.Answer.{Answer}
 use Rattle.settings.specs.Filing.{fileStatus}
-use Rattle.tag.specs.Wrapped.{oneOf, formRight, commandData, orderStatus, headerLength, byteStatus, frontStatus, fromStep5, commanded, wrapped as onWrapped}
+use Rattle.order.specs.Order.{formRight, commandData, orderStatus, headerLength, byteStatus, frontStatus}
+use Rattle.wrapped.specs.Wrapped.{fromStep5, commanded, wrapped as onWrapped}
 use Rattle.tag.specs.Call.{answered}
 use Rattle.series.proofs.Choices.{not-both, way, both-true, or-right}
+use Rattle.series.proofs.Born.{zeros-bytes}
 use Rattle.demands.specs.Reaching.{built}
 
 -- a test has one answer
@@ -39,12 +41,10 @@ pub against : {b : Bool} → b ≡ true → {A : Type 0} → b ≡ false → A
 against e {A} z = absurd (not-both (sym z ∙ e))
 
 -- ---- the length of what is wrapped
-pub pad-bytes : (n : ℕ) → AllBytes (128 ∷ replicate n 0)
+pad-bytes : (n : ℕ) → AllBytes (128 ∷ replicate n 0)
 unfolding AllBytes
 pad-bytes n zero = lit< tt
-pad-bytes zero (suc i) = lit< tt
-pad-bytes (suc n) (suc zero) = lit< tt
-pad-bytes (suc n) (suc (suc i)) = pad-bytes n (suc i)
+pad-bytes n (suc i) = zeros-bytes n i
 
 module _ (s : Session) (k : IsBlock (s .enc)) (d : List ℕ) (h : AllBytes d) where
   text-bytes : AllBytes (padded d)
@@ -59,7 +59,7 @@ module _ (s : Session) (k : IsBlock (s .enc)) (d : List ℕ) (h : AllBytes d) wh
   text-whole = rw text-length (omega arith)
 
   hidden-length : length (cbcOut (keyExpansion (s .enc)) (commandIv s) (padded d)) ≡ length d / 16 * 16 + 16
-  unfolding commandIv
+  unfolding commandIv commandVector
   hidden-length =
       cbcOut-length (keyExpansion (s .enc)) (keys-are (s .enc) k) (commandIv s) (padded d)
       (cipher-block (keyExpansion (s .enc)) (keys-are (s .enc) k) _) text-bytes text-whole
@@ -148,10 +148,10 @@ in-order : (pending : Bool) → pending ≡ false → eqb (orderStatus 0x5F 0 0 
 unfolding orderStatus oneOf
 in-order pending e = rw e refl
 
-pub built-talks : (t : Tag) (x random : List ℕ) (P : Answer → Type 0) → 1 ≤ length x → length x ≤ 255 → t .pending .on ≡ false
+pub built-to-step5 : (t : Tag) (x random : List ℕ) (P : Answer → Type 0) → 1 ≤ length x → length x ≤ 255 → t .pending .on ≡ false
     → P (fromStep5 t 0x5F x random) → P (answered t (built 0x5F x) random)
 unfolding built answered onWrapped commanded
-built-talks t x random P h b off p =
+built-to-step5 t x random P h b off p =
     let c = built 0x5F x in
     let l : length (built 0x5F x) ≡ 6 + length x = built-length 0x5F x in
     let short : or (ltb (length c) 4) (ltb 261 (length c)) ≡ false =

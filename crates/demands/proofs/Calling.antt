@@ -5,7 +5,7 @@ use Prim.Native.Nat.{ℕ}
 use lib.ListN.{length, drop}
 use lib.Seq.{take-append-seam, drop-append-seam}
 use Rattle.state.specs.declared.Tag.{Tag}
-use Rattle.answer.specs.Answer.{Answer}
+use Rattle.replies.specs.Answer.{Answer}
 use Rattle.tag.specs.declared.Called.{Called}
 use Rattle.tag.specs.declared.Outcome.{Outcome}
 use Rattle.tag.specs.declared.Outcome.the-variants.{Replied, SmallRoom, WrongRandom, Unsound}

@@ -6,29 +6,29 @@ use Prim.Native.Nat.{ℕ}
 use lib.Dec.{eqb, ltb}
 use lib.ListN.{length}
 use borrow.Author.Tests.{eqb-true, eq-eqb}
-use Rattle.base.specs.Decide.{pick, and, or}
+use Rattle.base.specs.Decide.{pick, and, or, oneOf}
 use Rattle.base.specs.Bytes.{byteAt}
 use Rattle.messaging.specs.declared.Mode.{Mode}
-use Rattle.messaging.specs.declared.Opened.the-variants.{WrongLength, WrongMac, WrongPadding}
+use Rattle.opening.specs.declared.Opened.the-variants.{WrongLength, WrongMac, WrongPadding}
 use Rattle.messaging.specs.Protect.{Opening, plain, wrongLength, wrongMac, wrongPadding}
-use Rattle.messaging.specs.Command.{openedStatus}
+use Rattle.opening.specs.Command.{openedStatus}
 use Rattle.settings.specs.declared.Status.{Status}
 use Rattle.settings.specs.declared.Status.the-variants.{LengthError, ParameterError}
 use Rattle.settings.specs.declared.Verdict.{Verdict}
 use Rattle.settings.specs.declared.Verdict.the-variants.{Good, Refused, WrongFile}
 use Rattle.settings.specs.Answers.{judged, statusWord}
-use Rattle.state.specs.declared.Access.{Access}
-use Rattle.state.specs.declared.Access.the-variants.{In, Never, Denied}
+use Rattle.access.specs.declared.Access.{Access}
+use Rattle.access.specs.declared.Access.the-variants.{In, Never, Denied}
 use Rattle.state.specs.declared.Tag.{Tag}
 use Rattle.state.specs.State.{readingIn}
-use Rattle.state.specs.Access.{accessFor, accessStatus, grantStatus}
-use Rattle.answer.specs.Answer.{Answer, refusal, accepted}
+use Rattle.access.specs.Access.{accessFor, accessStatus, grantStatus}
+use Rattle.replies.specs.Answer.{Answer, refusal, accepted}
 use Rattle.settings.specs.declared.FileFault.{FileFault}
 use Rattle.settings.specs.declared.FileFault.the-variants.{OverThirtyOne, NoSuchFile}
 use Rattle.settings.specs.Filing.{fileFaultWord, fileStatus}
-use Rattle.details.specs.Details.{changedSettings, byVerdict}
-use Rattle.tag.specs.Wrapped.{oneOf, formRight, commandData, wrappedCommands, orderStatus, headerLength, byteStatus, frontStatus}
-use Rattle.tag.specs.Wrapped.{own, openingOf, onOpening, fromStep7, onAccess, fromStep5, commanded, wrapped}
+use Rattle.change_settings.specs.ChangeSettings.{changedSettings, byVerdict}
+use Rattle.order.specs.Order.{formRight, commandData, wrappedCommands, orderStatus, headerLength, byteStatus, frontStatus}
+use Rattle.wrapped.specs.Wrapped.{own, openingOf, onOpening, fromStep7, onAccess, fromStep5, commanded, wrapped}
 use Rattle.tag.specs.Call.{answered}
 use Rattle.series.specs.Series.{accepting}
 use Rattle.series.proofs.Choices.{not-both, way}
@@ -102,9 +102,9 @@ unfolding accepting openedStatus
 padding-refuses = refl
 
 -- 5F is no authentication
-by-talk : (t : Tag) (x random : List ℕ) (P : Answer → Type 0) → P (fromStep5 t 0x5F x random) → P (commanded t 0x5F x random)
+by-step5 : (t : Tag) (x random : List ℕ) (P : Answer → Type 0) → P (fromStep5 t 0x5F x random) → P (commanded t 0x5F x random)
 unfolding commanded
-by-talk t x random P h = h
+by-step5 t x random P h = h
 
 word-refuses : (e : Status) → accepting (statusWord e) ≡ false
 unfolding accepting statusWord
@@ -165,9 +165,9 @@ module _ (t : Tag) (c random : List ℕ) (class : byteAt c 0 ≡ 0x90) (command 
   access-change i f Never e = refused (accessStatus Never) never-refuses
   access-change i f Denied e = refused (accessStatus Denied) denied-refuses
 
-  talk-change : t .pending .on ≡ false → P (fromStep5 t 0x5F (commandData c) random)
+  step5-change : t .pending .on ≡ false → P (fromStep5 t 0x5F (commandData c) random)
   unfolding fromStep5 frontStatus byteStatus n oneOf
-  talk-change i =
+  step5-change i =
       let short = ltb (length (commandData c)) (headerLength 0x5F) in
       let s = fileStatus (byteAt (commandData c) 0) in
       way P (eqb (pick short 0x917E (pick (t .place .application) s 0x919D)) 0)
@@ -190,12 +190,12 @@ module _ (t : Tag) (c random : List ℕ) (class : byteAt c 0 ≡ 0x90) (command 
       way P (eqb s 0)
       (λ e.
       subst (λ i. P (commanded t i (commandData c) random)) (sym command)
-      (talk-only (order-idle known zero (t .pending .on) (subst (λ (b : Bool). eqb (order b) 0 ≡ true) (ap (λ i. eqb i 0xAF) command) e))))
+      (at-step5 (order-idle known zero (t .pending .on) (subst (λ (b : Bool). eqb (order b) 0 ≡ true) (ap (λ i. eqb i 0xAF) command) e))))
       (λ e. refused s (order-refuses known zero (t .pending .on) af)))
       (λ f. refused 0x917E form-refuses)
     where
-      talk-only : t .pending .on ≡ false → P (commanded t 0x5F (commandData c) random)
-      talk-only i = by-talk t (commandData c) random P (talk-change i)
+      at-step5 : t .pending .on ≡ false → P (commanded t 0x5F (commandData c) random)
+      at-step5 i = by-step5 t (commandData c) random P (step5-change i)
 
   pub accepted-change : accepting (answered t c random .status) ≡ true → Changed t c (answered t c random)
   unfolding answered

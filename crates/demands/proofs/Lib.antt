@@ -6,7 +6,3 @@ pub mod Meaning
 pub mod Building
 pub mod Reachable
 pub mod Samples
-pub mod Determined
-pub mod DeterminedFloors
-pub mod DeterminedTag
-pub mod DeterminedStand

@@ -2,47 +2,47 @@
 use mathlib.Core.Path.{_≡_, refl, sym, _∙_, ap, ap₂, subst}
 use mathlib.Core.Bool.{Bool, true, false}
 use mathlib.Core.List.{List, [], _∷_, _++_}
-use mathlib.Core.Logic.{⊎-elim}
 use Prim.Native.Nat.{ℕ, _+_, _-_, _≤_}
 use native.Mathlib.Omega.{arith}
 use lib.Dec.{eqb}
 use lib.ListN.{length, take, replicate, length-append, length-take, length-drop}
 use lib.Seq.{take-at}
 use borrow.Author.Tests.{eqb-true, le-ltb}
-use Rattle.base.specs.Decide.{pick, and}
+use Rattle.base.specs.Decide.{pick, and, oneOf}
 use Rattle.base.specs.Bytes.{byteAt, low, same}
 use Rattle.base.proofs.Bytes.{and-left, and-right}
 use Rattle.messaging.specs.declared.Mode.{Mode}
 use Rattle.messaging.specs.declared.Mode.the-variants.{Plain}
 use Rattle.messaging.specs.Protect.{signed, sent}
-use Rattle.messaging.specs.Reply.{closed, closedLength, overlong}
+use Rattle.closing.specs.Reply.{closed, closedLength, overlong}
 use Rattle.settings.specs.declared.Verdict.the-variants.{Good}
 use Rattle.fields.specs.Normal.{normal}
 use Rattle.meanings.proofs.NormalForm.{normal-length}
 use Rattle.meanings.proofs.Mirrors.{good-length}
-use Rattle.state.specs.declared.Access.the-variants.{In}
+use Rattle.access.specs.declared.Access.the-variants.{In}
 use Rattle.state.specs.declared.Tag.{Tag}
 use Rattle.state.specs.State.{sizeOf, rulesOf, readingIn, noLive, noPending, endedOf, filed, placed, talking, tapped}
-use Rattle.state.specs.Sound.{soundTag}
-use Rattle.state.specs.Access.{accessFor}
-use Rattle.answer.specs.Answer.{Answer, refusal, accepted, afterwards}
-use Rattle.details.specs.Details.{settingsReply, fileSettings, withRules, restrung, byVerdict}
+use Rattle.soundness.specs.Sound.{soundTag}
+use Rattle.access.specs.Access.{accessFor}
+use Rattle.replies.specs.Answer.{Answer, refusal, accepted, afterwards}
+use Rattle.details.specs.Details.{settingsReply, fileSettings}
+use Rattle.change_settings.specs.ChangeSettings.{withRules, restrung, byVerdict}
 use Rattle.selects.specs.Selects.{moved, byName, selected}
 use Rattle.tag.specs.declared.Outcome.{Outcome}
 use Rattle.tag.specs.declared.Outcome.the-variants.{Replied}
-use Rattle.settings.specs.Filing.{fileStatus}
-use Rattle.tag.specs.Wrapped.{oneOf, commandData}
-use Rattle.tag.specs.InterIndustry.{isoForm, lcOf, dataOf, isoCommanded, interIndustry}
+use Rattle.order.specs.Order.{commandData}
+use Rattle.inter_industry.specs.InterIndustry.{isoForm, lcOf, dataOf, isoCommanded, interIndustry}
 use Rattle.tag.specs.Call.{answered, withStatus, replyOf, outcomeOf, replied, byOutcome}
-use Rattle.series.specs.Series.{Asked, step, accepting, Slots}
+use Rattle.series.specs.Series.{Asked, step, accepting, Typed}
 use Rattle.series.specs.Worked.{selectApplication, settingsOf}
 use Rattle.series.proofs.Choices.{way}
+use Rattle.series.proofs.Places.{each-file, small}
 use Rattle.series.proofs.Computing.{a-message, a-wrapped-command}
 use Rattle.series.proofs.Fine.{Fine, fine-sound, sound-fine}
 use Rattle.series.proofs.Soundness.{fine-answered, fine-step}
 use Rattle.demands.specs.Talks.{Said, heard, said, saidAll, Alike, isChange, modeOf, stringIn, stringOfReply, telling, Tells, Exactly}
 use Rattle.demands.proofs.Changing.{Changed, accepted-change, string-sent}
-use Rattle.demands.proofs.Series.{answered-rules, which, small}
+use Rattle.demands.proofs.Series.{answered-rules}
 use Rattle.demands.proofs.Readback.{string-read}
 
 -- ---- one normal form, one tag
@@ -90,10 +90,7 @@ unfolding a-wrapped-command a-message answered settingsOf moved noLive noPending
 tells-3 u random = refl
 
 tells : (u : Tag) (random : List ℕ) (n : ℕ) → 1 ≤ n → n ≤ 3 → answers-settings u n random
-tells u random n a b =
-    ⊎-elim (λ e. subst (λ i. answers-settings u i random) (sym e) (tells-1 u random))
-    (⊎-elim (λ e. subst (λ i. answers-settings u i random) (sym e) (tells-2 u random)) (λ e. subst (λ i. answers-settings u i random) (sym e) (tells-3 u random)))
-    (which n a b)
+tells u random = each-file (λ i. answers-settings u i random) (tells-1 u random) (tells-2 u random) (tells-3 u random)
 
 -- a reply in Plain, under 256 bytes
 plain-reply : (u : Tag) (d : List ℕ) → length d ≤ 256 → replyOf (accepted u Plain d) ≡ d ++ 0x91 ∷ 0x00 ∷ []
@@ -131,6 +128,10 @@ step-moves : (u : Tag) → soundTag u ≡ true → u .pending .on ≡ false → 
 unfolding step replied
 step-moves u e p = ap₂ (λ (a : Answer) (o : Outcome). byOutcome u a o .tag) (select-moves u zeros20 p) (replied-outcome u e)
 
+telling-is : (n : ℕ) → telling n ≡ asking selectApplication ∷ asking (settingsOf n) ∷ []
+unfolding telling
+telling-is n = refl
+
 second : List Said → List ℕ
 second [] = []
 second (x ∷ []) = []
@@ -138,11 +139,12 @@ second (x ∷ y ∷ more) = y .reply
 
 second-heard : (u : Tag) → Fine u → u .pending .on ≡ false → (n : ℕ) → 1 ≤ n → n ≤ 3 → length (rulesOf (u .files) n) ≤ 27
     → second (saidAll u (telling n)) ≡ settingsReply (rulesOf (u .files) n) (sizeOf n) ++ 0x91 ∷ 0x00 ∷ []
-unfolding second saidAll telling said
+unfolding second saidAll said
 second-heard u f p n a b l =
     let v = step u (asking selectApplication) in
     let d = settingsReply (rulesOf (u .files) n) (sizeOf n) in
-    ap (λ o. heard (answered v (settingsOf n) zeros20) o) (replied-outcome v (fine-sound v (fine-step u f (asking selectApplication))))
+    ap (λ asked. second (saidAll u asked)) (telling-is n)
+    ∙ ap (λ o. heard (answered v (settingsOf n) zeros20) o) (replied-outcome v (fine-sound v (fine-step u f (asking selectApplication))))
     ∙ ap (λ w. replyOf (answered w (settingsOf n) zeros20)) (step-moves u (fine-sound u f) p)
     ∙ ap replyOf (tells u zeros20 n a b)
     ∙ plain-reply (moved u true .tag) d (reply-short (rulesOf (u .files) n) (sizeOf n) l)
@@ -181,7 +183,7 @@ module _ (t : Tag) (f : Fine t) (n : ℕ) (a : 1 ≤ n) (b : n ≤ 3) (c random 
   holds : rulesOf (next .files) n ≡ normal (stringIn t c)
   unfolding next
   holds =
-      answered-rules t (f .calm .slots) c random n (small n a b)
+      answered-rules t f c random n (small n a b)
       ∙ ap₂ (λ x y. pick (and x y) (normal (stringIn t c)) (rulesOf (t .files) n)) change fair
 
   short : length (rulesOf (next .files) n) ≤ 27
@@ -202,7 +204,7 @@ module _ (t : Tag) (f : Fine t) (n : ℕ) (a : 1 ≤ n) (b : n ≤ 3) (c random 
 
 -- For any sound tag, file and two ChangeFileSettings commands that this tag accepts, given the same random bytes: where the two
 -- resulting tags answer the series `telling` alike, the two strings have one normal form.
-pub telling-apart : (t : Tag) → Slots t → soundTag t ≡ true → (n : ℕ) → 1 ≤ n → n ≤ 3 → (c d random : List ℕ) → isChange c n ≡ true
+pub telling-apart : (t : Tag) → Typed t → soundTag t ≡ true → (n : ℕ) → 1 ≤ n → n ≤ 3 → (c d random : List ℕ) → isChange c n ≡ true
     → isChange d n ≡ true → accepting (answered t c random .status) ≡ true → accepting (answered t d random .status) ≡ true
     → Tells t n c d random
 unfolding next
@@ -215,22 +217,30 @@ telling-apart t s e n a b c d random p q x y l =
     ∙ ap stringOfReply w
     ∙ string-read (normal (stringIn t d)) (sizeOf n) (long t f n a b d random q y)
 
+-- and where the two strings have one normal form, the two tags are one
+forms-alike : (t : Tag) → Typed t → soundTag t ≡ true → (n : ℕ) → 1 ≤ n → n ≤ 3 → (c d random : List ℕ) → isChange c n ≡ true
+    → isChange d n ≡ true → accepting (answered t c random .status) ≡ true → accepting (answered t d random .status) ≡ true
+    → normal (stringIn t c) ≡ normal (stringIn t d) → Alike (answered t c random .tag) (answered t d random .tag)
+forms-alike t s e n a b c d random p q x y o =
+    let f = sound-fine t s e in
+    alike-same (answered t c random .tag) (answered t d random .tag)
+    (ap (λ (z : Answer). z .tag)
+    (one-answer t c d (answered t c random) (answered t d random) (is-changed t f n a b c random p x) (is-changed t f n a b d random q y)
+    (file-is t f n a b c random p x ∙ sym (file-is t f n a b d random q y))
+    (sym (ap normal (string-is t f n a b c random p x)) ∙ o ∙ ap normal (string-is t f n a b d random q y))))
+
+-- tags that are alike answer `telling` alike
+alike-told : (t u : Tag) (n : ℕ) → Alike t u → saidAll t (telling n) ≡ saidAll u (telling n)
+unfolding Alike
+alike-told t u n l = l (telling n)
+
 -- For the same two changes: the two resulting tags give the same replies to every later series of commands exactly when the two
 -- strings have one normal form.
-pub alike-exactly : (t : Tag) → Slots t → soundTag t ≡ true → (n : ℕ) → 1 ≤ n → n ≤ 3 → (c d random : List ℕ) → isChange c n ≡ true
+pub alike-exactly : (t : Tag) → Typed t → soundTag t ≡ true → (n : ℕ) → 1 ≤ n → n ≤ 3 → (c d random : List ℕ) → isChange c n ≡ true
     → isChange d n ≡ true → accepting (answered t c random .status) ≡ true → accepting (answered t d random .status) ≡ true
     → Exactly t c d random
-unfolding Alike
 alike-exactly t s e n a b c d random p q x y =
-    let f = sound-fine t s e in
-    let h = is-changed t f n a b c random p x in
-    let k = is-changed t f n a b d random q y in
     record {
-      alike =
-          λ o.
-          alike-same (answered t c random .tag) (answered t d random .tag)
-          (ap (λ (z : Answer). z .tag)
-          (one-answer t c d (answered t c random) (answered t d random) h k (file-is t f n a b c random p x ∙ sym (file-is t f n a b d random q y))
-          (sym (ap normal (string-is t f n a b c random p x)) ∙ o ∙ ap normal (string-is t f n a b d random q y))));
-      one-form = λ l. telling-apart t s e n a b c d random p q x y (l (telling n));
+      alike = forms-alike t s e n a b c d random p q x y;
+      one-form = λ l. telling-apart t s e n a b c d random p q x y (alike-told (answered t c random .tag) (answered t d random .tag) n l);
     }

@@ -11,7 +11,7 @@ use native.Mathlib.Omega.{arith}
 use lib.Dec.{eqb, ltb}
 use lib.ListN.{length}
 use borrow.Author.Tests.{eqb-true, eq-eqb, ne-eqb, lt-ltb, le-ltb}
-use Rattle.base.specs.Decide.{pick, and, or}
+use Rattle.base.specs.Decide.{pick, and, or, oneOf}
 use Rattle.base.specs.Bytes.{byteAt, AllBytes, over}
 use Rattle.base.proofs.Bytes.{and-right}
 use Rattle.aes.specs.Block.{IsBlock}
@@ -19,41 +19,43 @@ use Rattle.messaging.specs.declared.Mode.{Mode}
 use Rattle.messaging.specs.declared.Mode.the-variants.{Plain, Mac, Full}
 use Rattle.messaging.specs.declared.Session.{Session}
 use Rattle.messaging.specs.Protect.{messageMac, sent, signed, plain}
-use Rattle.messaging.specs.Command.{sentCommand, opening}
-use Rattle.messaging.specs.Reply.{closed, overlong}
+use Rattle.opening.specs.Command.{sentCommand, opening}
+use Rattle.closing.specs.Reply.{closed, overlong}
 use Rattle.both_ends.proofs.Messages.{sent-command-opens}
 use Rattle.fields.specs.declared.Head.{Head}
 use Rattle.fields.specs.declared.Settings.{Settings}
 use Rattle.settings.specs.declared.Verdict.the-variants.{Good}
 use Rattle.settings.specs.Answers.{judged}
 use Rattle.fields.specs.Fields.{readOf, stringOf}
-use Rattle.settings.specs.Rules.{meets}
+use Rattle.rules.specs.Rules.{meets}
 use Rattle.meanings.proofs.Mirrors.{good-length}
 use Rattle.meanings.proofs.OneMeaning.{one-string, string-bytes}
-use Rattle.state.specs.declared.Access.{Access}
-use Rattle.state.specs.declared.Access.the-variants.{In, Never as NeverIn, Denied as DeniedIn}
-use Rattle.state.specs.declared.Grant.the-variants.{ByKey, ByTap, Free, Never, Denied}
+use Rattle.access.specs.declared.Access.{Access}
+use Rattle.access.specs.declared.Access.the-variants.{In, Never as NeverIn, Denied as DeniedIn}
+use Rattle.access.specs.declared.Grant.the-variants.{ByKey, ByTap, Free, Never, Denied}
 use Rattle.state.specs.declared.Live.{Live}
 use Rattle.state.specs.declared.Tag.{Tag}
 use Rattle.state.specs.State.{rulesOf, readingIn, talking, tapped, filed}
-use Rattle.state.specs.Fresh.{rightUid}
-use Rattle.state.specs.Access.{granted, changeGrant, inMode as accessIn, accessFor}
-use Rattle.state.specs.Sound.{soundTag}
-use Rattle.answer.specs.Answer.{Answer, given, accepted, afterwards, raised, sessionOf}
-use Rattle.details.specs.Details.{restrung, byVerdict, changedSettings}
+use Rattle.delivery.specs.Fresh.{rightUid}
+use Rattle.access.specs.Access.{granted, changeGrant, inMode as accessIn, accessFor}
+use Rattle.soundness.specs.Sound.{soundTag}
+use Rattle.replies.specs.Answer.{Answer, given, accepted, afterwards, raised, sessionOf}
+use Rattle.change_settings.specs.ChangeSettings.{restrung, byVerdict, changedSettings}
 use Rattle.tag.specs.declared.Outcome.the-variants.{Replied}
-use Rattle.tag.specs.Wrapped.{oneOf, headerLength, hasData, frontStatus, own, onOpening, fromStep7, onAccess, fromStep5}
+use Rattle.order.specs.Order.{headerLength, hasData, frontStatus}
+use Rattle.wrapped.specs.Wrapped.{own, onOpening, fromStep7, onAccess, fromStep5}
 use Rattle.tag.specs.Call.{answered, withStatus, replyOf, outcomeOf, replied, byOutcome, roomBy}
 use Rattle.series.specs.Series.{step}
 use Rattle.series.proofs.Choices.{not-both, way}
 use Rattle.series.proofs.Computing.{soundness, access}
 use Rattle.series.proofs.Settled.{padOut, restored}
+use Rattle.series.proofs.Places.{small}
 use Rattle.series.proofs.Soundness.{sound-call}
+use Rattle.series.proofs.Born.{zeros-bytes}
 use Rattle.series.proofs.Changes.{short-none}
 use Rattle.demands.specs.Samples.{tagOf, sample}
 use Rattle.demands.specs.Reaching.{built, changeOf, carried, changing, asking, changed, Ready, UnderE, UnderKey, Reached}
-use Rattle.demands.proofs.Series.{small}
-use Rattle.demands.proofs.Building.{against, pad-bytes, wrapped-bound, wrapped-first, wrapped-filled, built-talks, front-passes}
+use Rattle.demands.proofs.Building.{against, wrapped-bound, wrapped-first, wrapped-filled, built-to-step5, front-passes}
 
 -- ---- the due mode
 abbrev modeIn : Access → Mode
@@ -134,10 +136,10 @@ module _ (t : Tag) (n : ℕ) (m : Mode) (s : List ℕ) (random : List ℕ) (P : 
       (subst (λ v. P (byVerdict t n s m v)) (sym g) (way P (overlong m 0) (λ z. against z (short-none m)) (λ z. p)))
 
   -- steps 5 to 8: the front, access, CmdCtr, and the message, which opens to the string
-  talk-owns : (x : List ℕ) → Ready t n m → 1 ≤ length x → byteAt x 0 ≡ n → opening (sessionOf (t .live)) m 0x5F x 1 true ≡ plain s
+  step5-owns : (x : List ℕ) → Ready t n m → 1 ≤ length x → byteAt x 0 ≡ n → opening (sessionOf (t .live)) m 0x5F x 1 true ≡ plain s
       → P (own t 0x5F x s m random) → P (fromStep5 t 0x5F x random)
   unfolding fromStep5 fromStep7 headerLength hasData oneOf
-  talk-owns x h l e o p =
+  step5-owns x h l e o p =
       way P (eqb (frontStatus 0x5F x (t .place .application)) 0)
       (λ f.
       subst (λ a. P (onAccess t 0x5F x random a))
@@ -156,15 +158,15 @@ module _ (t : Tag) (n : ℕ) (r : Settings) (m : Mode) (h : Ready t n m) (e : me
       let x = carried t m n s in
       let b = string-bytes n r e in
       let P : Answer → Type 0 = λ a. a ≡ given (changed t n s) 0x9100 (closed (sessionOf (raised (t .live))) m 0 []) in
-      built-talks t x random P (carried-filled t n m s) (carried-short t n m s (h .enc) b g) (h .idle)
-      (talk-owns t n m s random P x h (carried-filled t n m s) (carried-first t n m s) (carried-opens t n m s (h .enc) b)
+      built-to-step5 t x random P (carried-filled t n m s) (carried-short t n m s (h .typed .enc) b g) (h .idle)
+      (step5-owns t n m s random P x h (carried-filled t n m s) (carried-first t n m s) (carried-opens t n m s (h .typed .enc) b)
       (own-accepts t n m s random P g x (carried-first t n m s) refl))
 
   kept : rulesOf (changed t n (stringOf r) .files) n ≡ stringOf r
   unfolding changed afterwards restrung padOut talking tapped filed
   kept =
       let o = one-string n r (h .first) (h .last) e in
-      restored (t .files) (h .slots .rules) (h .slots .lens) n (stringOf r) (o .good) n refl (small n (h .first) (h .last)) ∙ o .own
+      restored (t .files) (h .typed .rules) (h .typed .lens) n (stringOf r) (o .good) n refl (small n (h .first) (h .last)) ∙ o .own
 
   reply-plain : (s : Session) (u : Tag) → replyOf (given u 0x9100 (closed s Plain 0 [])) ≡ 0x91 ∷ 0x00 ∷ []
   unfolding replyOf withStatus closed signed sent
@@ -236,7 +238,7 @@ module _ (t : Tag) (n : ℕ) (r : Settings) (m : Mode) (h : Ready t n m) (e : me
           due = in-due;
           holds = held;
           means = ap readOf held ∙ o .reads;
-          sound = sound-call t (h .slots) (h .sound) (asking t n r m random room);
+          sound = sound-call t (h .typed) (h .sound) (asking t n r m random room);
         }
 
 -- ---- such tags are: of any UID, in the application, file 2 with Change 0 in session with key 0, or with Change E and no session
@@ -244,11 +246,10 @@ module _ (uid : List ℕ) (u : rightUid uid ≡ true) where
   sample-ready : (live : Bool) (rights : ℕ) (m : Mode) → soundTag (sample uid live rights) ≡ true
       → accessFor 0x5F (sample uid live rights .live) (readingIn (sample uid live rights .files) 2 .settings .head) ≡ In m
       → Ready (sample uid live rights) 2 m
-  unfolding sample tagOf AllBytes
+  unfolding sample tagOf
   sample-ready live rights m s a =
       record {
-        slots = record { rules = refl; lens = refl };
-        enc = record { len = refl; bytes = λ i. pad-bytes 16 (suc i) };
+        typed = record { rules = refl; lens = refl; enc = record { len = refl; bytes = zeros-bytes 16 } };
         sound = s;
         application = refl;
         idle = refl;

@@ -7,30 +7,30 @@ use native.Mathlib.Omega.{arith}
 use lib.Dec.{eqb, ltb}
 use lib.ListN.{length}
 use borrow.Author.Tests.{eqb-true, eq-eqb}
-use Rattle.base.specs.Decide.{pick, and, or}
+use Rattle.base.specs.Decide.{pick, and, or, oneOf}
 use Rattle.base.specs.Bytes.{byteAt, low}
 use Rattle.base.proofs.Bytes.{and-left, and-right}
 use Rattle.messaging.specs.declared.Mode.the-variants.{Plain, Mac}
-use Rattle.messaging.specs.declared.Opened.the-variants.{WrongLength, WrongMac, WrongPadding}
+use Rattle.opening.specs.declared.Opened.the-variants.{WrongLength, WrongMac, WrongPadding}
 use Rattle.messaging.specs.Protect.{Opening, plain, wrongLength, wrongMac, wrongPadding}
-use Rattle.messaging.specs.Command.{openedStatus}
-use Rattle.messaging.specs.Reply.{overlong, closedStatus}
+use Rattle.opening.specs.Command.{openedStatus}
+use Rattle.closing.specs.Reply.{overlong, closedStatus}
 use Rattle.fields.specs.Normal.{normal}
 use Rattle.state.specs.declared.Tag.{Tag}
 use Rattle.state.specs.State.{sizeOf, rulesOf}
-use Rattle.state.specs.Access.{accessFor}
-use Rattle.state.specs.Sound.{soundTag}
-use Rattle.answer.specs.Answer.{Answer, refusal, accepted}
+use Rattle.access.specs.Access.{accessFor}
+use Rattle.soundness.specs.Sound.{soundTag}
+use Rattle.replies.specs.Answer.{Answer, refusal, accepted}
 use Rattle.settings.specs.Filing.{fileStatus}
 use Rattle.details.specs.Details.{settingsReply, fileSettings}
-use Rattle.tag.specs.Wrapped.{oneOf, formRight, commandData, wrappedCommands, orderStatus, headerLength, byteStatus, frontStatus}
-use Rattle.tag.specs.Wrapped.{own, openingOf, onOpening, fromStep7, fromStep5, commanded, wrapped}
+use Rattle.order.specs.Order.{formRight, commandData, wrappedCommands, orderStatus, headerLength, byteStatus, frontStatus}
+use Rattle.wrapped.specs.Wrapped.{own, openingOf, onOpening, fromStep7, fromStep5, commanded, wrapped}
 use Rattle.tag.specs.Call.{answered}
-use Rattle.series.specs.Series.{Asked, step, after, accepting, Slots}
+use Rattle.series.specs.Series.{Asked, step, after, accepting, Typed}
 use Rattle.series.proofs.Choices.{not-both, way, not-true}
 use Rattle.demands.specs.Talks.{stringIn, changes, lastChange, untouched, asksSettings, readText, stringOfReply}
 use Rattle.demands.proofs.Changing.{order-refuses, front-says, form-refuses, long-refuses, full-refuses, length-refuses, mac-refuses, padding-refuses}
-use Rattle.demands.proofs.Series.{series-leaves}
+use Rattle.demands.proofs.Series.{last-none, last-more, series-leaves}
 
 module _ (t : Tag) (c random : List ℕ) (class : byteAt c 0 ≡ 0x90) (command : byteAt c 1 ≡ 0xF5) where
   abbrev P : Answer → Type 0
@@ -52,9 +52,9 @@ module _ (t : Tag) (c random : List ℕ) (class : byteAt c 0 ≡ 0x90) (command 
   opening-read wrongMac = refused (openedStatus WrongMac) mac-refuses
   opening-read wrongPadding = refused (openedStatus WrongPadding) padding-refuses
 
-  talk-read : P (fromStep5 t 0xF5 (commandData c) random)
+  step5-read : P (fromStep5 t 0xF5 (commandData c) random)
   unfolding fromStep5 frontStatus byteStatus oneOf accessFor fromStep7
-  talk-read =
+  step5-read =
       let short = ltb (length (commandData c)) (headerLength 0xF5) in
       let s : ℕ = pick short 0x917E (pick (t .place .application) (fileStatus (byteAt (commandData c) 0)) 0x919D) in
       way P (eqb s 0)
@@ -65,7 +65,7 @@ module _ (t : Tag) (c random : List ℕ) (class : byteAt c 0 ≡ 0x90) (command 
 
   commanded-read : P (commanded t 0xF5 (commandData c) random)
   unfolding commanded
-  commanded-read = talk-read
+  commanded-read = step5-read
 
   wrapped-read : P (wrapped t c random)
   unfolding wrapped orderStatus
@@ -98,23 +98,25 @@ read-alike t n c random e h =
 
 -- no change, no other string
 untouched-last : (t : Tag) (more : List Asked) (n : ℕ) (s : List ℕ) → untouched t more n ≡ true → lastChange t more n s ≡ s
-unfolding untouched lastChange
-untouched-last t [] n s e = refl
+unfolding untouched
+untouched-last t [] n s e = last-none t n s
 untouched-last t (a ∷ more) n s e =
-    ap (λ b. lastChange (step t a) more n (pick b (normal (stringIn t (a .command))) s)) (not-true (changes t a n) (and-left _ _ e))
+    last-more t a more n s
+    ∙ ap (λ b. lastChange (step t a) more n (pick b (normal (stringIn t (a .command))) s)) (not-true (changes t a n) (and-left _ _ e))
     ∙ untouched-last (step t a) more n s (and-right (not (changes t a n)) _ e)
 
 -- After an accepted change, and until the next one, GetFileSettings of that file gives the normal form that was accepted.
-pub read-and-written-alike : (t : Tag) → Slots t → soundTag t ≡ true → (n : ℕ) → 1 ≤ n → n ≤ 3 → (a : Asked) (more : List Asked)
+pub read-and-written-alike : (t : Tag) → Typed t → soundTag t ≡ true → (n : ℕ) → 1 ≤ n → n ≤ 3 → (a : Asked) (more : List Asked)
     → changes t a n ≡ true → untouched (step t a) more n ≡ true → (c random : List ℕ) → asksSettings c n ≡ true
     → accepting (answered (after (step t a) more) c random .status) ≡ true
     → answered (after (step t a) more) c random .text ≡ readText (after (step t a) more) n (normal (stringIn t (a .command)))
-unfolding after lastChange
+unfolding after
 read-and-written-alike t s sound n first last a more e q c random asks fair =
     let u = after (step t a) more in
     read-alike u n c random asks fair
     ∙ ap (readText u n)
     (series-leaves t s sound n first last (a ∷ more)
+    ∙ last-more t a more n (rulesOf (t .files) n)
     ∙ ap (λ b. lastChange (step t a) more n (pick b (normal (stringIn t (a .command))) (rulesOf (t .files) n))) e
     ∙ untouched-last (step t a) more n (normal (stringIn t (a .command))) q)
 

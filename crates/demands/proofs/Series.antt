@@ -1,43 +1,41 @@
 -- What a series leaves: each file holds the normal form of the last change accepted for it.
-use mathlib.Core.Path.{_≡_, refl, sym, _∙_, ap, subst}
+use mathlib.Core.Path.{_≡_, refl, sym, _∙_, ap}
 use mathlib.Core.Bool.{Bool, true, false}
 use mathlib.Core.List.{List, [], _∷_}
-use mathlib.Core.Logic.{_⊎_, inl, inr, ⊎-elim}
 use Prim.Native.Nat.{ℕ, _≤_}
-use native.Mathlib.Omega.{arith}
-use lib.Dec.{eqb}
+use lib.Dec.{eqb, ltb}
 use lib.ListN.{length}
 use borrow.Author.Tests.{eqb-true, eq-eqb}
 use Rattle.base.specs.Decide.{pick, and}
 use Rattle.base.specs.Bytes.{byteAt}
-use Rattle.base.proofs.Bytes.{le-or-lt}
 use Rattle.messaging.specs.declared.Mode.{Mode}
-use Rattle.messaging.specs.Reply.{overlong}
+use Rattle.closing.specs.Reply.{overlong}
 use Rattle.fields.specs.Normal.{normal}
 use Rattle.state.specs.declared.Files.{Files}
 use Rattle.state.specs.declared.Tag.{Tag}
 use Rattle.state.specs.State.{slotOf, rulesOf, readingIn, endedOf, filed, keyed, placed, talking, tapped}
-use Rattle.state.specs.Fresh.{deliveredFiles, freshTag, rightUid}
-use Rattle.state.specs.Sound.{soundTag}
-use Rattle.answer.specs.Answer.{Answer, refusal, accepted, afterwards}
-use Rattle.answer.specs.Taps.{shown}
-use Rattle.answer.specs.Filing.{storedIso, tapRead, withBytes}
-use Rattle.auth.specs.Parts.{begun, enteredFirst, enteredNext, entered}
-use Rattle.details.specs.Details.{withRules, restrung}
+use Rattle.delivery.specs.Fresh.{deliveredFiles, freshTag}
+use Rattle.soundness.specs.Sound.{soundTag}
+use Rattle.replies.specs.Answer.{Answer, refusal, accepted, afterwards}
+use Rattle.file_parts.specs.Filing.{storedIso, withBytes}
+use Rattle.taps.specs.Taps.{shown, tapRead}
+use Rattle.auth.specs.Parts.{begun}
+use Rattle.part_two.specs.PartTwo.{enteredFirst, enteredNext, entered}
+use Rattle.change_settings.specs.ChangeSettings.{withRules, restrung}
 use Rattle.selects.specs.Selects.{moved, selectedFile}
 use Rattle.tag.specs.declared.Outcome.{Outcome}
 use Rattle.tag.specs.declared.Outcome.the-variants.{Replied, SmallRoom, WrongRandom, Unsound}
-use Rattle.tag.specs.Wrapped.{commandData}
+use Rattle.order.specs.Order.{commandData}
 use Rattle.tag.specs.Call.{answered, outcomeOf, replied, unanswered, byOutcome}
-use Rattle.series.specs.Series.{Asked, step, after, accepting, replies, accepts, Slots}
+use Rattle.series.specs.Series.{Asked, step, after, accepting, replies, accepts, Typed}
 use Rattle.series.proofs.Choices.{not-both, way}
 use Rattle.series.proofs.Walk.{Sent, Kinds, every-answer}
-use Rattle.series.proofs.Places.{slot-other, same-slot}
+use Rattle.series.proofs.Places.{slot-other, same-slot, each-file, small}
 use Rattle.series.proofs.Fine.{Fine, sound-fine}
 use Rattle.series.proofs.Settled.{padOut, restored, whole}
 use Rattle.series.proofs.Soundness.{fine-step}
-use Rattle.series.proofs.Born.{fresh-slots, fresh-sound}
-use Rattle.series.proofs.Changes.{changed-accepted}
+use Rattle.series.proofs.Born.{fresh-typed}
+use Rattle.series.proofs.Changes.{refused-call, changed-accepted}
 use Rattle.demands.specs.Talks.{isChange, stringIn, changes, lastChange, delivered}
 use Rattle.demands.proofs.Changing.{Changed, accepted-change, string-sent}
 
@@ -83,24 +81,24 @@ never : (b : Bool) (x y : List ℕ) → y ≡ pick (and b false) x y
 never true x y = refl
 never false x y = refl
 
-module _ (t : Tag) (slots : Slots t) (c random : List ℕ) (n : ℕ) (small : slotOf n ≤ 2) where
+module _ (t : Tag) (f : Fine t) (c random : List ℕ) (n : ℕ) (small : slotOf n ≤ 2) where
   put : (a : Answer) → Changed t c a
       → rulesOf (a .tag .files) n ≡ pick (eqb (byteAt (commandData c) 0) n) (normal (stringIn t c)) (rulesOf (t .files) n)
   unfolding padOut
   put a h =
       let m = byteAt (commandData c) 0 in
-      let f = withRules (t .files) m (padOut (h .text)) (length (h .text)) in
-      let e : rulesOf (a .tag .files) n ≡ rulesOf f n = ap (λ x. rulesOf (x .tag .files) n) (h .is) ∙ ap (λ g. g n) (changed-rules t f m (h .mode)) in
+      let w = withRules (t .files) m (padOut (h .text)) (length (h .text)) in
+      let e : rulesOf (a .tag .files) n ≡ rulesOf w n = ap (λ x. rulesOf (x .tag .files) n) (h .is) ∙ ap (λ g. g n) (changed-rules t w m (h .mode)) in
       e ∙ by (eqb m n) refl
     where
       by : (b : Bool) → eqb (byteAt (commandData c) 0) n ≡ b
           → rulesOf (withRules (t .files) (byteAt (commandData c) 0) (padOut (h .text)) (length (h .text))) n ≡ pick b (normal (stringIn t c)) (rulesOf (t .files) n)
       by true q =
-          restored (t .files) (slots .rules) (slots .lens) (byteAt (commandData c) 0) (h .text) (h .good) n (ap slotOf (eqb-true (byteAt (commandData c) 0) n q)) small
+          restored (t .files) (f .calm .lasting .rules) (f .calm .lasting .lens) (byteAt (commandData c) 0) (h .text) (h .good) n (ap slotOf (eqb-true (byteAt (commandData c) 0) n q)) small
           ∙ ap normal (sym (string-sent t c (h .text) (h .mode) (h .sent)))
       by false q =
           slot-other (byteAt (commandData c) 0) n (t .files) (padOut (h .text)) (length (h .text))
-          (whole (t .files) (slots .rules) (slots .lens) (byteAt (commandData c) 0) (h .text) (h .good))
+          (whole (t .files) (f .calm .lasting .rules) (f .calm .lasting .lens) (byteAt (commandData c) 0) (h .text) (h .good))
           (λ s. not-both (sym q ∙ eq-eqb (byteAt (commandData c) 0) n (same-slot (byteAt (commandData c) 0) n s small)))
 
   -- the string of file n after a command
@@ -127,49 +125,41 @@ module _ (t : Tag) (slots : Slots t) (c random : List ℕ) (n : ℕ) (small : sl
           ∙ never (eqb (byteAt (commandData c) 0) n) (normal (stringIn t c)) (rulesOf (t .files) n)
 
 -- ---- a call, and a series
-step-rules : (t : Tag) → Slots t → (a : Asked) (n : ℕ) → slotOf n ≤ 2
+step-rules : (t : Tag) → Fine t → (a : Asked) (n : ℕ) → slotOf n ≤ 2
     → rulesOf (step t a .files) n ≡ pick (changes t a n) (normal (stringIn t (a .command))) (rulesOf (t .files) n)
 unfolding step changes accepts replied unanswered
-step-rules t s a n h = by (outcomeOf t (a .random) (a .room))
+step-rules t f a n h = by (outcomeOf t (a .random) (a .room))
   where
     by : (o : Outcome)
         → rulesOf (byOutcome t (answered t (a .command) (a .random)) o .tag .files) n
         ≡ pick (and (isChange (a .command) n) (and (replies o) (accepting (answered t (a .command) (a .random) .status))))
         (normal (stringIn t (a .command))) (rulesOf (t .files) n)
-    by Replied = answered-rules t s (a .command) (a .random) n h
+    by Replied = answered-rules t f (a .command) (a .random) n h
     by SmallRoom = never (isChange (a .command) n) (normal (stringIn t (a .command))) (rulesOf (t .files) n)
     by WrongRandom = never (isChange (a .command) n) (normal (stringIn t (a .command))) (rulesOf (t .files) n)
     by Unsound = never (isChange (a .command) n) (normal (stringIn t (a .command))) (rulesOf (t .files) n)
 
+-- the last change of no call, and of a call and more
+pub last-none : (t : Tag) (n : ℕ) (s : List ℕ) → lastChange t [] n s ≡ s
+unfolding lastChange
+last-none t n s = refl
+
+pub last-more : (t : Tag) (a : Asked) (more : List Asked) (n : ℕ) (s : List ℕ)
+    → lastChange t (a ∷ more) n s ≡ lastChange (step t a) more n (pick (changes t a n) (normal (stringIn t (a .command))) s)
+unfolding lastChange
+last-more t a more n s = refl
+
 -- after any series the string of each file is the normal form of the last change accepted for it, or as it was
 pub series-rules : (t : Tag) → Fine t → (asked : List Asked) (n : ℕ) → slotOf n ≤ 2
     → rulesOf (after t asked .files) n ≡ lastChange t asked n (rulesOf (t .files) n)
-unfolding after lastChange
-series-rules t f [] n h = refl
+unfolding after
+series-rules t f [] n h = sym (last-none t n (rulesOf (t .files) n))
 series-rules t f (a ∷ more) n h =
-    series-rules (step t a) (fine-step t f a) more n h ∙ ap (lastChange (step t a) more n) (step-rules t (f .calm .slots) a n h)
+    series-rules (step t a) (fine-step t f a) more n h
+    ∙ ap (lastChange (step t a) more n) (step-rules t f a n h)
+    ∙ sym (last-more t a more n (rulesOf (t .files) n))
 
 -- ---- from delivery on
-pub which : (n : ℕ) → 1 ≤ n → n ≤ 3 → (n ≡ 1) ⊎ ((n ≡ 2) ⊎ (n ≡ 3))
-which n a b = ⊎-elim (λ p. inl (omega arith)) (λ p. inr (⊎-elim (λ q. inl (omega arith)) (λ q. inr (omega arith)) (le-or-lt n 2))) (le-or-lt n 1)
-
-small-1 : slotOf 1 ≤ 2
-unfolding slotOf
-small-1 = omega arith
-
-small-2 : slotOf 2 ≤ 2
-unfolding slotOf
-small-2 = omega arith
-
-small-3 : slotOf 3 ≤ 2
-unfolding slotOf
-small-3 = omega arith
-
-pub small : (n : ℕ) → 1 ≤ n → n ≤ 3 → slotOf n ≤ 2
-small n a b =
-    ⊎-elim (λ e. subst (λ k. slotOf k ≤ 2) (sym e) small-1)
-    (⊎-elim (λ e. subst (λ k. slotOf k ≤ 2) (sym e) small-2) (λ e. subst (λ k. slotOf k ≤ 2) (sym e) small-3)) (which n a b)
-
 delivery-1 : (uid : List ℕ) → rulesOf (freshTag uid .files) 1 ≡ delivered 1
 unfolding freshTag deliveredFiles rulesOf slotOf delivered
 delivery-1 uid = refl
@@ -183,21 +173,44 @@ unfolding freshTag deliveredFiles rulesOf slotOf delivered
 delivery-3 uid = refl
 
 delivery : (uid : List ℕ) (n : ℕ) → 1 ≤ n → n ≤ 3 → rulesOf (freshTag uid .files) n ≡ delivered n
-delivery uid n a b =
-    ⊎-elim (λ e. subst (λ k. rulesOf (freshTag uid .files) k ≡ delivered k) (sym e) (delivery-1 uid))
-    (⊎-elim (λ e. subst (λ k. rulesOf (freshTag uid .files) k ≡ delivered k) (sym e) (delivery-2 uid))
-    (λ e. subst (λ k. rulesOf (freshTag uid .files) k ≡ delivered k) (sym e) (delivery-3 uid)))
-    (which n a b)
+delivery uid = each-file (λ k. rulesOf (freshTag uid .files) k ≡ delivered k) (delivery-1 uid) (delivery-2 uid) (delivery-3 uid)
 
 -- After any series of commands each file of a sound tag holds the normal form of the last change accepted for it, or its settings as
 -- they were.
-pub series-leaves : (t : Tag) → Slots t → soundTag t ≡ true → (n : ℕ) → 1 ≤ n → n ≤ 3 → (asked : List Asked)
+pub series-leaves : (t : Tag) → Typed t → soundTag t ≡ true → (n : ℕ) → 1 ≤ n → n ≤ 3 → (asked : List Asked)
     → rulesOf (after t asked .files) n ≡ lastChange t asked n (rulesOf (t .files) n)
 series-leaves t s e n a b asked = series-rules t (sound-fine t s e) asked n (small n a b)
 
--- From a fresh tag on: the last change accepted for it, or its delivery settings.
-pub what-a-series-leaves : (uid : List ℕ) → rightUid uid ≡ true → (n : ℕ) → 1 ≤ n → n ≤ 3 → (asked : List Asked)
+-- a tag that is not sound gives no reply
+no-reply : (t : Tag) → soundTag t ≡ false → (random room : List ℕ) → replies (outcomeOf t random room) ≡ false
+unfolding outcomeOf
+no-reply t e random room =
+    let P : Outcome → Type 0 = λ o. replies o ≡ false in
+    rw e (way P (ltb (length room) 258) (λ z. refl) (λ z. way P (eqb (length random) 20) (λ y. refl) (λ y. refl)))
+
+-- so it stays as it is, and no change is accepted
+unsound-rules : (t : Tag) → soundTag t ≡ false → (asked : List Asked) (n : ℕ) (s : List ℕ) → rulesOf (t .files) n ≡ s
+    → rulesOf (after t asked .files) n ≡ lastChange t asked n s
+unfolding after changes accepts
+unsound-rules t e [] n s h = h ∙ sym (last-none t n s)
+unsound-rules t e (a ∷ more) n s h =
+    let z = no-reply t e (a .random) (a .room) in
+    let k = refused-call t a z in
+    let x = normal (stringIn t (a .command)) in
+    let b = isChange (a .command) n in
+    let fair = accepting (answered t (a .command) (a .random) .status) in
+    unsound-rules (step t a) (ap soundTag k ∙ e) more n (pick (changes t a n) x s)
+    (ap (λ u. rulesOf (u .files) n) k ∙ h ∙ never b x s ∙ ap (λ (r : Bool). pick (and b (and r fair)) x s) (sym z))
+    ∙ sym (last-more t a more n s)
+
+-- From a fresh tag on: the last change accepted for it, or its delivery settings. Of any UID: with a wrong one there is no fresh tag, and the
+-- tag of this record answers nothing and keeps its delivery settings.
+pub what-a-series-leaves : (uid : List ℕ) (n : ℕ) → 1 ≤ n → n ≤ 3 → (asked : List Asked)
     → rulesOf (after (freshTag uid) asked .files) n ≡ lastChange (freshTag uid) asked n (delivered n)
-what-a-series-leaves uid e n a b asked =
-    series-leaves (freshTag uid) (fresh-slots uid) (fresh-sound uid e) n a b asked
-    ∙ ap (lastChange (freshTag uid) asked n) (delivery uid n a b)
+what-a-series-leaves uid n a b asked = by (soundTag (freshTag uid)) refl
+  where
+    by : (sound : Bool) → soundTag (freshTag uid) ≡ sound
+        → rulesOf (after (freshTag uid) asked .files) n ≡ lastChange (freshTag uid) asked n (delivered n)
+    by true e =
+        series-leaves (freshTag uid) (fresh-typed uid) e n a b asked ∙ ap (lastChange (freshTag uid) asked n) (delivery uid n a b)
+    by false e = unsound-rules (freshTag uid) e asked n (delivered n) (delivery uid n a b)

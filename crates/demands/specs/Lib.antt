@@ -1,4 +1,3 @@
 pub mod Talks
 pub mod Reaching
 pub mod Samples
-pub mod Determining

@@ -6,26 +6,25 @@ use mathlib.Core.Logic.{_⊎_}
 use Prim.Native.Nat.{ℕ, _+_, _-_, _≤_, _<_}
 use lib.ListN.{length, replicate}
 use Rattle.base.specs.Bytes.{over}
-use Rattle.aes.specs.Block.{IsBlock}
 use Rattle.messaging.specs.declared.Mode.{Mode}
 use Rattle.messaging.specs.declared.Mode.the-variants.{Plain, Full}
 use Rattle.messaging.specs.Protect.{messageMac}
-use Rattle.messaging.specs.Command.{sentCommand}
-use Rattle.messaging.specs.Reply.{closed}
+use Rattle.opening.specs.Command.{sentCommand}
+use Rattle.closing.specs.Reply.{closed}
 use Rattle.fields.specs.declared.Settings.{Settings}
 use Rattle.fields.specs.Fields.{readOf, stringOf}
 use Rattle.fields.specs.Normal.{normal}
 use Rattle.meanings.specs.Meaning.{OneString}
-use Rattle.state.specs.declared.Access.the-variants.{In}
+use Rattle.access.specs.declared.Access.the-variants.{In}
 use Rattle.state.specs.declared.Tag.{Tag}
 use Rattle.state.specs.State.{rulesOf, readingIn}
-use Rattle.state.specs.Access.{accessFor}
-use Rattle.state.specs.Sound.{soundTag}
-use Rattle.answer.specs.Answer.{given, afterwards, raised, sessionOf}
-use Rattle.details.specs.Details.{withRules, restrung}
+use Rattle.access.specs.Access.{accessFor}
+use Rattle.soundness.specs.Sound.{soundTag}
+use Rattle.replies.specs.Answer.{given, afterwards, raised, sessionOf}
+use Rattle.change_settings.specs.ChangeSettings.{withRules, restrung}
 use Rattle.tag.specs.declared.Outcome.the-variants.{Replied}
 use Rattle.tag.specs.Call.{answered, replyOf, outcomeOf, roomBy}
-use Rattle.series.specs.Series.{Asked, step, Slots}
+use Rattle.series.specs.Series.{Asked, step, Typed}
 
 -- CLA 90, INS, P1 P2 0000, Lc, data, Le 00
 unfoldable pub built : ℕ → List ℕ → List ℕ
@@ -51,10 +50,9 @@ unfoldable pub changed : Tag → ℕ → List ℕ → Tag
 changed t n s = afterwards (restrung t (withRules (t .files) n (normal s ++ replicate (27 - length s) 0) (length s)) n)
 
 -- a sound tag in the application, no part two pending, that grants the change of file n, in mode m; in session CmdCtr is below
--- 65,535. Its arrays have their lengths and bytes, as in every value of the type
+-- 65,535
 pub record Ready (t : Tag) (n : ℕ) (m : Mode) : Type 0 where
-  pub slots : Slots t
-  pub enc : IsBlock (t .live .enc)
+  pub typed : Typed t
   pub sound : soundTag t ≡ true
   pub application : t .place .application ≡ true
   pub idle : t .pending .on ≡ false

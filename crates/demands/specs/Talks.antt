@@ -1,5 +1,5 @@
 -- What a series of calls says, and the last change of a file's settings that was accepted in it.
-use mathlib.Core.Bool.{Bool, true, false, not}
+use mathlib.Core.Bool.{Bool, true, not}
 use mathlib.Core.List.{List, [], _∷_, _++_}
 use mathlib.Core.Path.{_≡_}
 use Prim.Native.Nat.{ℕ}
@@ -9,21 +9,22 @@ use Rattle.base.specs.Decide.{pick, and}
 use Rattle.base.specs.Bytes.{byteAt}
 use Rattle.messaging.specs.declared.Mode.{Mode}
 use Rattle.messaging.specs.declared.Mode.the-variants.{Plain, Mac}
-use Rattle.messaging.specs.Reply.{closed}
+use Rattle.closing.specs.Reply.{closed}
 use Rattle.messaging.specs.Protect.{Opening, plain, wrongLength, wrongMac, wrongPadding}
 use Rattle.fields.specs.Normal.{normal}
-use Rattle.state.specs.declared.Access.{Access}
-use Rattle.state.specs.declared.Access.the-variants.{In, Never, Denied}
+use Rattle.access.specs.declared.Access.{Access}
+use Rattle.access.specs.declared.Access.the-variants.{In, Never, Denied}
 use Rattle.state.specs.declared.Tag.{Tag}
 use Rattle.state.specs.State.{sizeOf, readingIn}
-use Rattle.state.specs.Fresh.{firstRules, secondRules, thirdRules}
-use Rattle.state.specs.Access.{accessFor}
-use Rattle.answer.specs.Answer.{Answer, raised, sessionOf}
+use Rattle.delivery.specs.Fresh.{firstRules, secondRules, thirdRules}
+use Rattle.access.specs.Access.{accessFor}
+use Rattle.replies.specs.Answer.{Answer, raised, sessionOf}
 use Rattle.details.specs.Details.{settingsReply}
 use Rattle.tag.specs.declared.Outcome.{Outcome}
 use Rattle.tag.specs.declared.Outcome.the-variants.{Replied, SmallRoom, WrongRandom, Unsound}
 use Rattle.tag.specs.declared.Called.{Called}
-use Rattle.tag.specs.Wrapped.{commandData, openingOf}
+use Rattle.order.specs.Order.{commandData}
+use Rattle.wrapped.specs.Wrapped.{openingOf}
 use Rattle.tag.specs.Call.{answered, replyOf, outcomeOf, Calls}
 use Rattle.series.specs.Series.{Asked, step, after, accepts}
 use Rattle.series.specs.Worked.{selectApplication, settingsOf}

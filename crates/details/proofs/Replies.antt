@@ -15,9 +15,9 @@ use Rattle.state.specs.declared.Files.{Files}
 use Rattle.state.specs.declared.Tag.{Tag}
 use Rattle.state.specs.State.{sizeOf, stringAt, rulesOf}
 use Rattle.state.proofs.Strings.{string-short}
-use Rattle.answer.specs.declared.Done.{Done}
-use Rattle.answer.specs.declared.Part.{Part}
-use Rattle.answer.specs.Answer.{Gives, accepted}
+use Rattle.replies.specs.declared.Done.{Done}
+use Rattle.replies.specs.declared.Part.{Part}
+use Rattle.replies.specs.Answer.{Gives, accepted}
 use Rattle.details.specs.Details.{settingsReply, atFront}
 
 -- a command accepted with the same data

@@ -1,6 +1,6 @@
-// Tags set by hand, where a paper begins in the middle. UID, keys and TI are hexadecimal.
+// Tags set by hand, where a paper begins in the middle. UID, keys, TI and tap counter are hexadecimal.
 ghost use mathlib.Core.Path.{_≡_};
-ghost use Rattle.exchanges.specs.ByHand.{freshOf, sessionOf, inSession, freeRules, changeableOf, withTaps};
+ghost use Rattle.exchanges.specs.ByHand.{freshOf, sessionOf, inSession, freeRules, changeableOf, noTap, withTaps};
 use state::Files;
 use state::Live;
 use state::Tag;
@@ -15,9 +15,9 @@ pub fn fresh(uid: &[u8]) -> Tag
     b.tag
 }
 
-// A session under key 0.
-pub fn session(enc: &[u8], mac: &[u8], ti: &[u8], counter: u16) -> Live
-    ensures { λ r. ⌜ r ≡ sessionOf (now (enc .entry)) (now (mac .entry)) (now (ti .entry)) counter ⌝ }
+// A session under key 0, at CmdCtr 2.
+fn session(enc: &[u8], mac: &[u8], ti: &[u8]) -> Live
+    ensures { λ r. ⌜ r ≡ sessionOf (now (enc .entry)) (now (mac .entry)) (now (ti .entry)) ⌝ }
 {
     let mut e = [0u8; 16];
     let mut m = [0u8; 16];
@@ -31,15 +31,18 @@ pub fn session(enc: &[u8], mac: &[u8], ti: &[u8], counter: u16) -> Live
         enc: e,
         mac: m,
         ti: t,
-        counter,
+        counter: 2,
     }
 }
 
-pub fn in_session(tag: Tag, live: Live) -> Tag
-    ensures { λ r. ⌜ r ≡ inSession tag live ⌝ }
+pub fn in_session(tag: Tag, enc: &[u8], mac: &[u8], ti: &[u8]) -> Tag
+    ensures { λ r. ⌜ r ≡ inSession tag (now (enc .entry)) (now (mac .entry)) (now (ti .entry)) ⌝ }
 {
     let mut t = tag;
+    let live = session(enc, mac, ti);
     t.live = live;
+    let tap = state::quiet(t.tap);
+    t.tap = tap;
     t
 }
 
@@ -61,16 +64,25 @@ pub fn changeable(tag: Tag) -> Tag
     t
 }
 
-// The tap counter, with no tap running.
-pub fn with_taps(tag: Tag, counter: u32) -> Tag
-    ensures { λ r. ⌜ r ≡ withTaps tag counter ⌝ }
+// No tap running.
+fn no_tap(counter: u8) -> Tapping
+    ensures { λ r. ⌜ r ≡ noTap counter ⌝ }
 {
-    let mut t = tag;
-    let n = Tapping {
+    Tapping {
         on: false,
         iso: false,
-        counter,
-    };
-    t.tap = n;
+        counter: counter as u32,
+    }
+}
+
+// The tap counter, one byte, with no tap running.
+pub fn with_taps(tag: Tag, counter: &[u8]) -> Tag
+    ensures { λ r. ⌜ r ≡ withTaps tag (now (counter .entry)) ⌝ }
+{
+    let mut b = [0u8; 1];
+    lines::decode(counter, &mut b);
+    let tap = no_tap(b[0]);
+    let mut t = tag;
+    t.tap = tap;
     t
 }

@@ -32,13 +32,13 @@ pub fn fits(text: &[u8], pattern: &[u8]) -> bool
     true
 }
 
-// Where the word that begins at a place ends.
-pub fn end(line: &[u8], at: usize) -> usize
-    requires { ⌜ at ≤ length (now line) ⌝ }
+// Where the word or the line that begins at a place ends.
+pub fn end(text: &[u8], at: usize, b: u8) -> usize
+    requires { ⌜ at ≤ length (now text) ⌝ }
     ensures from { λ r. ⌜ at ≤ r ⌝ }
-    ensures within { λ r. ⌜ r ≤ length (now (line .entry)) ⌝ }
+    ensures within { λ r. ⌜ r ≤ length (now (text .entry)) ⌝ }
 {
-    lines::find(line, at, b' ')
+    lines::find(text, at, b)
 }
 
 // Where the word behind a word's end begins, or the line's end.

@@ -2,9 +2,8 @@
 ghost use mathlib.Core.Path.{_≡_};
 ghost use Rattle.fields.specs.Fields.{sdmOn, sdmByte, modeOf, headOf, hasUid, hasCounter, hasPicc, hasMac, hasEnc, present};
 use super::Head;
-use super::truth;
 
-pub fn mode_of(b: u8) -> u8
+fn mode_of(b: u8) -> u8
     ensures { λ r. ⌜ r ≡ modeOf b ⌝ }
 {
     if b % 4 == 2 {
@@ -14,7 +13,7 @@ pub fn mode_of(b: u8) -> u8
 }
 
 // A byte of SDM's, and 0 where SDM is off.
-pub fn sdm_byte(s: &[u8], i: usize) -> u8
+fn sdm_byte(s: &[u8], i: usize) -> u8
     ensures { λ r. ⌜ r ≡ sdmByte (now (s .entry)) i ⌝ }
 {
     if sdm_on(s) {

@@ -1,3 +1,3 @@
 pub mod Pieces
-pub mod Roundtrip
+pub mod Shapes
 pub mod Answering

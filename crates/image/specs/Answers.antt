@@ -7,7 +7,7 @@ use lib.ListN.{length}
 use Rattle.base.specs.Decide.{pick, and}
 use Rattle.base.specs.Bytes.{byteAt}
 use Rattle.state.specs.declared.Tag.{Tag}
-use Rattle.state.specs.Fresh.{blank}
+use Rattle.delivery.specs.Fresh.{blank}
 use Rattle.image.specs.declared.Found.{Found}
 use Rattle.image.specs.declared.Found.the-variants.{Whole, WrongLength, WrongVersion, NotABoolean}
 use Rattle.image.specs.declared.Read.{Read}

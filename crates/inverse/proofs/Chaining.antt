@@ -11,7 +11,7 @@ use Rattle.base.specs.Bytes.{byteAt, AllBytes}
 use Rattle.base.proofs.Bytes.{append-bytes, take-bytes, drop-bytes}
 use Rattle.inverse.specs.RoundKeys.{IsKeys}
 use Rattle.aes.specs.Block.{IsBlock, xorBlock, cipher, invCipher}
-use Rattle.aes.specs.Cbc.{across, sealed, opened, cbcOut, cbcBack}
+use Rattle.cbc.specs.Cbc.{across, sealed, opened, cbcOut, cbcBack}
 use Rattle.inverse.proofs.Steps.{xor-block, xor-undone}
 use Rattle.inverse.proofs.Inverse.{back-of-cipher, cipher-of-back, cipher-block, back-of-block}
 

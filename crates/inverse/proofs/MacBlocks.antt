@@ -6,7 +6,7 @@ use lib.ListN.{length, take, drop, replicate}
 use Rattle.base.specs.Bytes.{byteAt, AllBytes}
 use Rattle.base.proofs.Bytes.{tab-bytes}
 use Rattle.aes.specs.Block.{IsBlock, cipher, xorBlock}
-use Rattle.aes.specs.Cmac.{blocksOf, lastBlock, chained, cmac, evenPlaces}
+use Rattle.cmac.specs.Cmac.{blocksOf, lastBlock, chained, cmac, evenPlaces}
 use Rattle.inverse.specs.RoundKeys.{IsKeys}
 use Rattle.inverse.proofs.Inverse.{cipher-block}
 

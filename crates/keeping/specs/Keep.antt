@@ -1,29 +1,22 @@
--- A tag that is kept in a file between runs, and what the arguments ask for.
+-- A tag that is kept in a file between runs.
 use mathlib.Core.Bool.{Bool}
-use mathlib.Core.List.{List, [], _∷_, _++_}
-use Prim.Native.Nat.{ℕ, _+_}
-use lib.Dec.{leb}
-use lib.ListN.{length}
+use mathlib.Core.List.{List}
+use mathlib.Core.Path.{_≡_}
+use Prim.Native.Nat.{ℕ}
+use lib.Dec.{eqb}
 use Rattle.base.specs.Decide.{pick}
-use Rattle.base.specs.Bytes.{same, over}
-use Rattle.state.specs.Sound.{soundTag}
+use Rattle.base.specs.Bytes.{byteAt, same}
+use Rattle.soundness.specs.Sound.{soundTag}
 use Rattle.image.specs.declared.Found.{Found}
 use Rattle.image.specs.declared.Found.the-variants.{Whole, WrongLength, WrongVersion, NotABoolean}
 use Rattle.image.specs.declared.Read.{Read}
-use Rattle.image.specs.Answers.{readIn}
-use Rattle.keeping.specs.declared.Asked.{Asked}
-use Rattle.keeping.specs.declared.Asked.the-variants.{Plain, Image, NoFile, Unknown}
+use Rattle.image.specs.Image.{tagIn}
+use Rattle.image.specs.Answers.{bitsAt, booleans, rightLength, readIn}
 use Rattle.keeping.specs.declared.Start.{Start}
 use Rattle.keeping.specs.declared.Start.the-variants.{Ready, OtherLength, OtherVersion, NotABit, Unsound, OtherUid, NoUid, Unread}
 use Rattle.keeping.specs.declared.Begun.{Begun}
 
--- numbers of this house: what the arguments ask for, an unknown one with 10 and its place; and what a run starts from
-unfoldable pub askedNumber : Asked → ℕ
-askedNumber Plain = 0
-askedNumber Image = 1
-askedNumber NoFile = 2
-askedNumber (Unknown i) = 10 + i
-
+-- numbers of this house
 unfoldable pub startNumber : Start → ℕ
 startNumber Ready = 0
 startNumber OtherLength = 1
@@ -33,12 +26,6 @@ startNumber Unsound = 4
 startNumber OtherUid = 5
 startNumber NoUid = 6
 startNumber Unread = 7
-
--- no argument, or --image and a file; the program's name is counted, and has number 0
-unfoldable pub askedBy : ℕ → Bool → Asked
-askedBy count named =
-    pick (leb count 1) Plain
-    (pick named (pick (leb count 2) NoFile (pick (leb 4 count) (Unknown 3) Image)) (Unknown 1))
 
 -- what was found in a file: a whole image must hold a sound state, and that of the plan's tag
 unfoldable pub startBy : Found → Bool → Bool → Start
@@ -54,16 +41,13 @@ keptBy r uid = record { start = startBy (r .found) (soundTag (r .tag)) (same uid
 unfoldable pub keptIn : List ℕ → List ℕ → Begun
 keptIn s uid = keptBy (readIn s) uid
 
--- the name of a file with .new behind it
-abbrev pub dotNew : List ℕ
-dotNew = 46 ∷ 110 ∷ 101 ∷ 119 ∷ []
+-- the same by number
+unfoldable pub keptCase : List ℕ → List ℕ → ℕ
+keptCase s uid =
+    pick (rightLength s)
+    (pick (eqb (byteAt s 0) 1)
+    (pick (bitsAt s booleans) (pick (soundTag (tagIn s)) (pick (same uid (tagIn s .uid)) 0 5) 4) 3) 2) 1
 
-abbrev pub newName : List ℕ → List ℕ
-newName path = path ++ dotNew
-
--- it is written where there is room for it
-unfoldable pub besideLength : List ℕ → List ℕ → ℕ
-besideLength path room = pick (leb (length (newName path)) (length room)) (length (newName path)) 0
-
-unfoldable pub besideRoom : List ℕ → List ℕ → List ℕ
-besideRoom path room = pick (leb (length (newName path)) (length room)) (over (newName path) room) room
+pub record Keeps (s uid : List ℕ) (r : Begun) : Type 0 where
+  pub number : startNumber (r .start) ≡ keptCase s uid
+  pub told : r ≡ keptIn s uid

@@ -12,7 +12,7 @@ use Rattle.messaging.specs.declared.Mode.the-variants.{Full}
 use Rattle.state.specs.declared.Secrets.{Secrets}
 use Rattle.state.specs.declared.Tag.{Tag}
 use Rattle.state.specs.State.{keyIn, keyed, endedOf}
-use Rattle.answer.specs.Answer.{Answer, given, refusal, accepted}
+use Rattle.replies.specs.Answer.{Answer, given, refusal, accepted}
 
 -- key 0 gives the new key, others new xor old
 unfoldable pub newKey : List ℕ → List ℕ → ℕ → List ℕ

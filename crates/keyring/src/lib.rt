@@ -4,10 +4,10 @@ ghost use lib.Bits.{bitXor};
 ghost use lib.Dec.{eqb};
 ghost use Rattle.base.specs.Decide.{pick};
 ghost use Rattle.state.specs.State.{keyed};
-ghost use Rattle.answer.specs.Answer.{Gives};
+ghost use Rattle.replies.specs.Answer.{Gives};
 ghost use Rattle.keyring.specs.Keyring.{newKey, changeStatus, withKey, changedKey, keyVersion};
-use answer::Done;
 use messaging::Mode;
+use replies::Done;
 use state::Secrets;
 use state::Tag;
 
@@ -85,11 +85,11 @@ pub fn change_key(tag: Tag, k: u8, p: &[u8]) -> Done
     if s == 0 {
         let t = keyed_with(tag, with_key(tag.secrets, k, new, base::at(p, 16)));
         if k == 0 {
-            return answer::give(state::ended(t), 0x9100, [0; 258], 0);
+            return replies::give(state::ended(t), 0x9100, [0; 258], 0);
         }
-        return answer::accept(t, Mode::Full, [0; 258], 0);
+        return replies::accept(t, Mode::Full, [0; 258], 0);
     }
-    answer::refuse(tag, s)
+    replies::refuse(tag, s)
 }
 
 // GetKeyVersion of key k.
@@ -99,5 +99,5 @@ pub fn key_version(tag: Tag, k: u8, m: Mode) -> Done
     let versions = tag.secrets.versions;
     let mut bytes = [0u8; 258];
     base::put(&[base::at(&versions, k as usize)], &mut bytes, 0);
-    answer::accept(tag, m, bytes, 1)
+    replies::accept(tag, m, bytes, 1)
 }

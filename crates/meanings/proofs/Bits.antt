@@ -9,7 +9,7 @@ use borrow.Author.Tests.{leb-true, eqb-true, eq-eqb, ne-eqb}
 use Rattle.base.specs.Decide.{pick, and, or}
 use Rattle.base.proofs.Bytes.{le-or-lt, and-left, and-right}
 use Rattle.fields.specs.Fields.{bit, one, modeOf}
-use Rattle.settings.specs.Rules.{optionBits, sdmOptionsBits, modes}
+use Rattle.rules.specs.Rules.{optionBits, sdmOptionsBits, modes}
 use Rattle.fields.specs.Normal.{plainMode}
 use Rattle.writing.proofs.Small.{or-true, mode-small}
 

@@ -3,10 +3,10 @@ use mathlib.Core.Path.{refl}
 use Rattle.base.specs.Bytes.{number}
 use Rattle.fields.specs.Fields.{sdmOn, sdmByte, modeOf, headOf, hasUid, hasCounter, hasPicc, hasMac, hasEnc}
 use Rattle.fields.specs.Fields.{present, three, fields, ends, placesOf, placesIn, sizeOf}
-use Rattle.fields.specs.Spans.{span, uidSpan, counterSpan, piccSpan, encSpan, macSpan, spansOf, inside, apart, apartFrom, allApart}
-use Rattle.settings.specs.Rules.{found, optionBits, sdmFile, condition, rights, sdmOptionsBits, sdmRights}
-use Rattle.settings.specs.Rules.{metaMirrors, metaOff, encNeeds, encSize, macInput, encBetween}
-use Rattle.settings.specs.Rules.{positionRules, sdmRules, restRules, rules}
+use Rattle.spans.specs.Spans.{span, uidSpan, counterSpan, piccSpan, encSpan, macSpan, spansOf, inside, apart, apartFrom, allApart}
+use Rattle.rules.specs.Rules.{found, optionBits, sdmFile, condition, rights, sdmOptionsBits, sdmRights}
+use Rattle.rules.specs.Rules.{metaMirrors, metaOff, encNeeds, encSize, macInput, encBetween}
+use Rattle.rules.specs.Rules.{positionRules, sdmRules, restRules, rules}
 use Rattle.meanings.specs.Worked.{example, Shown}
 use Rattle.fields.specs.Normal.{plainMode, freeBits, normal}
 use Rattle.settings.specs.Answers.{verdictOf, judged}

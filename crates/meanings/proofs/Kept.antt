@@ -11,23 +11,23 @@ use Rattle.base.specs.Decide.{pick, or}
 use Rattle.base.specs.Bytes.{byteAt}
 use Rattle.fields.specs.declared.Head.{Head}
 use Rattle.fields.specs.declared.Settings.{Settings}
-use Rattle.settings.specs.declared.Part.{Part}
-use Rattle.settings.specs.declared.Check.{Check}
-use Rattle.settings.specs.declared.Finding.{Finding}
-use Rattle.settings.specs.declared.Finding.the-variants.{Kept, Missing, Wrong}
-use Rattle.settings.specs.declared.Part.the-variants.{OptionByte, RightsBytes, SdmOptionsByte, SdmRightsBytes, Whole}
-use Rattle.settings.specs.declared.Check.the-variants.{OptionBits, SdmFile, Rights, SdmOptionsBits, SdmRights}
-use Rattle.settings.specs.declared.Check.the-variants.{MetaMirrors, MetaOff, EncNeeds, EncSize}
-use Rattle.settings.specs.declared.Check.the-variants.{UidInside, CounterInside, PiccInside, EncInside, MacInside}
-use Rattle.settings.specs.declared.Check.the-variants.{Shared, MacInput, EncBetween}
+use Rattle.rules.specs.declared.Part.{Part}
+use Rattle.rules.specs.declared.Check.{Check}
+use Rattle.rules.specs.declared.Finding.{Finding}
+use Rattle.rules.specs.declared.Finding.the-variants.{Kept, Missing, Wrong}
+use Rattle.rules.specs.declared.Part.the-variants.{OptionByte, RightsBytes, SdmOptionsByte, SdmRightsBytes, Whole}
+use Rattle.rules.specs.declared.Check.the-variants.{OptionBits, SdmFile, Rights, SdmOptionsBits, SdmRights}
+use Rattle.rules.specs.declared.Check.the-variants.{MetaMirrors, MetaOff, EncNeeds, EncSize}
+use Rattle.rules.specs.declared.Check.the-variants.{UidInside, CounterInside, PiccInside, EncInside, MacInside}
+use Rattle.rules.specs.declared.Check.the-variants.{Shared, MacInput, EncBetween}
 use Rattle.settings.specs.declared.FileFault.the-variants.{OverThirtyOne, NoSuchFile}
 use Rattle.settings.specs.declared.Verdict.{Verdict}
 use Rattle.settings.specs.declared.Verdict.the-variants.{Good, WrongFile}
 use Rattle.fields.specs.Fields.{sdmOn, headOf, placesIn, sizeOf}
-use Rattle.fields.specs.Spans.{uidSpan, counterSpan, piccSpan, encSpan, macSpan, spansOf, inside, allApart}
-use Rattle.settings.specs.Rules.{Rule, there, right, found, kept, optionBits, sdmFile, rights, sdmOptionsBits, sdmRights}
-use Rattle.settings.specs.Rules.{metaMirrors, metaOff, encNeeds, encSize, macInput, encBetween}
-use Rattle.settings.specs.Rules.{positionRules, sdmRules, restRules, rules}
+use Rattle.spans.specs.Spans.{uidSpan, counterSpan, piccSpan, encSpan, macSpan, spansOf, inside, allApart}
+use Rattle.rules.specs.Rules.{Rule, there, right, found, kept, optionBits, sdmFile, rights, sdmOptionsBits, sdmRights}
+use Rattle.rules.specs.Rules.{metaMirrors, metaOff, encNeeds, encSize, macInput, encBetween}
+use Rattle.rules.specs.Rules.{positionRules, sdmRules, restRules, rules}
 use Rattle.settings.specs.Answers.{verdictOf, judged}
 use Rattle.settings.proofs.Filing.{one-to-three}
 

@@ -14,12 +14,12 @@ use Rattle.base.specs.Bytes.{byteAt}
 use Rattle.base.proofs.Bytes.{le-or-lt, and-left, and-right}
 use Rattle.fields.specs.declared.Head.{Head}
 use Rattle.fields.specs.declared.Settings.{Settings}
-use Rattle.fields.specs.declared.Span.{Span}
+use Rattle.spans.specs.declared.Span.{Span}
 use Rattle.settings.specs.declared.Verdict.the-variants.{Good}
-use Rattle.settings.specs.declared.Finding.the-variants.{Kept}
+use Rattle.rules.specs.declared.Finding.the-variants.{Kept}
 use Rattle.fields.specs.Fields.{sdmOn, sdmByte, headOf, hasUid, hasCounter, hasPicc, hasMac, hasEnc, present, ends, placesIn, readOf, sizeOf}
-use Rattle.fields.specs.Spans.{span, uidSpan, counterSpan, piccSpan, encSpan, macSpan, spansOf, endOf, Inside, Disjoint, inside, apart, apartFrom, allApart}
-use Rattle.settings.specs.Rules.{found, encSize, macInput, encBetween, positionRules}
+use Rattle.spans.specs.Spans.{span, uidSpan, counterSpan, piccSpan, encSpan, macSpan, spansOf, endOf, Inside, Disjoint, inside, apart, apartFrom, allApart}
+use Rattle.rules.specs.Rules.{found, encSize, macInput, encBetween, positionRules}
 use Rattle.settings.specs.Answers.{judged}
 use Rattle.meanings.specs.Placing.{none, Placed}
 use Rattle.writing.proofs.Small.{or-true}

@@ -15,7 +15,7 @@ use Rattle.base.proofs.Bytes.{le-or-lt}
 use Rattle.fields.specs.declared.Head.{Head}
 use Rattle.settings.specs.declared.Verdict.the-variants.{Good, WrongFile}
 use Rattle.fields.specs.Fields.{bit, sdmOn, sdmByte, modeOf, headOf, present, three, after, fields, placesIn, placesOf, readOf}
-use Rattle.settings.specs.Rules.{found, optionBits, sdmRules, restRules, rules}
+use Rattle.rules.specs.Rules.{found, optionBits, sdmRules, restRules, rules}
 use Rattle.fields.specs.Normal.{plainMode, freeBits, normal}
 use Rattle.settings.specs.Filing.{byFault}
 use Rattle.settings.specs.Answers.{verdictOf, judged}

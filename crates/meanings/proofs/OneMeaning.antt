@@ -12,16 +12,16 @@ use Rattle.base.specs.Bytes.{byteAt, AllBytes, low}
 use Rattle.base.proofs.Numbers.{low-bytes}
 use Rattle.fields.specs.declared.Head.{Head}
 use Rattle.fields.specs.declared.Settings.{Settings}
-use Rattle.settings.specs.declared.Part.{Part}
-use Rattle.settings.specs.declared.Check.{Check}
-use Rattle.settings.specs.declared.Part.the-variants.{OptionByte, RightsBytes, SdmOptionsByte, SdmRightsBytes, Whole}
-use Rattle.settings.specs.declared.Check.the-variants.{OptionBits, SdmFile, Rights, SdmOptionsBits, SdmRights, MetaMirrors, MetaOff, EncNeeds}
+use Rattle.rules.specs.declared.Part.{Part}
+use Rattle.rules.specs.declared.Check.{Check}
+use Rattle.rules.specs.declared.Part.the-variants.{OptionByte, RightsBytes, SdmOptionsByte, SdmRightsBytes, Whole}
+use Rattle.rules.specs.declared.Check.the-variants.{OptionBits, SdmFile, Rights, SdmOptionsBits, SdmRights, MetaMirrors, MetaOff, EncNeeds}
 use Rattle.settings.specs.declared.Verdict.the-variants.{Good}
-use Rattle.settings.specs.declared.Finding.{Finding}
-use Rattle.settings.specs.declared.Finding.the-variants.{Kept}
+use Rattle.rules.specs.declared.Finding.{Finding}
+use Rattle.rules.specs.declared.Finding.the-variants.{Kept}
 use Rattle.fields.specs.Fields.{sdmOn, headOf, present, written, listed, readOf, sizeOf, frontBytes, sdmBytes, stringOf}
-use Rattle.settings.specs.Rules.{Rule, there, right, found, kept, optionBits, sdmFile, rights, sdmOptionsBits, sdmRights}
-use Rattle.settings.specs.Rules.{positionRules, sdmRules, restRules, rules, fieldsFit, sdmMeets, sdmAbsent, sdmPart, modes, meets}
+use Rattle.rules.specs.Rules.{Rule, there, right, found, kept, optionBits, sdmFile, rights, sdmOptionsBits, sdmRights}
+use Rattle.rules.specs.Rules.{positionRules, sdmRules, restRules, rules, fieldsFit, sdmMeets, sdmAbsent, sdmPart, modes, meets}
 use Rattle.fields.specs.Normal.{normal}
 use Rattle.settings.specs.Answers.{judged}
 use Rattle.meanings.specs.Meaning.{OneString, SameMeaning}

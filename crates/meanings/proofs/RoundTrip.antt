@@ -17,7 +17,7 @@ use Rattle.fields.specs.declared.Settings.{Settings}
 use Rattle.settings.specs.declared.Verdict.the-variants.{Good}
 use Rattle.fields.specs.Fields.{bit, sdmOn, sdmByte, modeOf, headOf, hasUid, hasCounter, hasPicc, hasMac, hasEnc}
 use Rattle.fields.specs.Fields.{present, fields, ends, written, placesOf, listed, placesIn, readOf, sizeOf, frontBytes, sdmBytes, stringOf}
-use Rattle.settings.specs.Rules.{optionBits, rights, sdmOptionsBits, sdmRights, fieldFits, fieldsFit, sdmMeets, sdmAbsent, sdmPart, modes, meets}
+use Rattle.rules.specs.Rules.{optionBits, rights, sdmOptionsBits, sdmRights, fieldFits, fieldsFit, sdmMeets, sdmAbsent, sdmPart, modes, meets}
 use Rattle.fields.specs.Normal.{plainMode, freeBits, normal}
 use Rattle.settings.specs.Answers.{judged}
 use Rattle.meanings.proofs.Bits.{mode-read, sdm-read, option-back, options-back, packed-7, packed-6, packed-5, packed-4}

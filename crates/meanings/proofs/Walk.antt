@@ -13,7 +13,7 @@ use Rattle.base.specs.Bytes.{byteAt, AllBytes, number, low}
 use Rattle.base.proofs.Bytes.{and-left, and-right}
 use Rattle.base.proofs.Numbers.{number-low, low-number, low-length}
 use Rattle.fields.specs.Fields.{after, three, fields, ends, written}
-use Rattle.settings.specs.Rules.{fieldFits, fieldsFit}
+use Rattle.rules.specs.Rules.{fieldFits, fieldsFit}
 
 -- ---- reading what was written
 three-at : (pre rest : List ℕ) (v : ℕ) → v < 256 ^ 3 → three (pre ++ (low 3 v ++ rest)) (length pre) ≡ v

@@ -4,9 +4,9 @@ use mathlib.Core.Bool.{true, false}
 use Prim.Native.Nat.{ℕ, _+_, _%_, _≤_, _<_}
 use lib.ListN.{getD}
 use Rattle.fields.specs.declared.Settings.{Settings}
-use Rattle.fields.specs.declared.Span.{Span}
+use Rattle.spans.specs.declared.Span.{Span}
 use Rattle.fields.specs.Fields.{hasMac, hasEnc}
-use Rattle.fields.specs.Spans.{spansOf, endOf, Inside, Disjoint}
+use Rattle.spans.specs.Spans.{spansOf, endOf, Inside, Disjoint}
 
 -- no span
 abbrev pub none : Span

@@ -1,3 +1,1 @@
 pub mod Protect
-pub mod Command
-pub mod Reply

@@ -6,8 +6,8 @@ use lib.ListN.{take, replicate}
 use Rattle.base.specs.Decide.{pick}
 use Rattle.base.specs.Bytes.{low, same}
 use Rattle.aes.specs.Block.{cipher}
-use Rattle.aes.specs.Cbc.{cbcOut, cbcBack}
-use Rattle.aes.specs.Cmac.{mac}
+use Rattle.cbc.specs.Cbc.{cbcOut, cbcBack}
+use Rattle.cmac.specs.Cmac.{mac}
 use Rattle.key_expansion.specs.Keys.{keyExpansion}
 use Rattle.padding.specs.Padding.{padded, unpad}
 use Rattle.messaging.specs.declared.Session.{Session}
@@ -21,12 +21,18 @@ use Rattle.padding.specs.declared.Unpadded.the-variants.{Text, Wrong}
 unfoldable pub messageMac : Session → ℕ → List ℕ → List ℕ
 messageMac s first body = mac (s .mac) (first ∷ low 2 (s .counter) ++ s .ti ++ body)
 
--- 9.1.4: the vectors of a command's data and of a reply's
+-- 9.1.4: the vectors of a command's data and of a reply's, under round keys, and under the session's own
+unfoldable pub commandVector : List (List ℕ) → Session → List ℕ
+commandVector w s = cipher w (0xA5 ∷ 0x5A ∷ s .ti ++ low 2 (s .counter) ++ replicate 8 0)
+
+unfoldable pub replyVector : List (List ℕ) → Session → List ℕ
+replyVector w s = cipher w (0x5A ∷ 0xA5 ∷ s .ti ++ low 2 (s .counter) ++ replicate 8 0)
+
 unfoldable pub commandIv : Session → List ℕ
-commandIv s = cipher (keyExpansion (s .enc)) (0xA5 ∷ 0x5A ∷ s .ti ++ low 2 (s .counter) ++ replicate 8 0)
+commandIv s = commandVector (keyExpansion (s .enc)) s
 
 unfoldable pub replyIv : Session → List ℕ
-replyIv s = cipher (keyExpansion (s .enc)) (0x5A ∷ 0xA5 ∷ s .ti ++ low 2 (s .counter) ++ replicate 8 0)
+replyIv s = replyVector (keyExpansion (s .enc)) s
 
 -- Table 69: the number of each mode in FileOption (crates/state/proofs/Modes.antt: file-mode-number)
 unfoldable pub modeNumber : Mode → ℕ

@@ -1,13 +1,11 @@
-// Secure messaging (9.1) over the promises of `aes` and `padding`: vectors and MACs, commands opened, replies closed.
-mod command;
+// Secure messaging (9.1) over the promises of `aes`: what `opening` and `closing` share, the vectors and the MAC of a message.
 mod protect;
-mod reply;
 
-pub use command::open;
 pub use protect::command_iv;
+pub use protect::command_vector;
+pub use protect::message_mac;
 pub use protect::reply_iv;
-pub use reply::close;
-pub use reply::too_long;
+pub use protect::reply_vector;
 
 // How a command and its reply are protected.
 pub enum Mode {
@@ -22,30 +20,4 @@ pub struct Session {
     pub mac: [u8; 16],
     pub ti: [u8; 4],
     pub counter: u16,
-}
-
-// What opening a command came to.
-pub enum Opened {
-    // The plain data stands at the front of the room, this many bytes.
-    Data(usize),
-    // 917E: not the length for the mode.
-    WrongLength,
-    // 911E.
-    WrongMac,
-    // 911E.
-    WrongPadding,
-    // More than the 255 bytes that a command can have.
-    TooLong,
-    // The room is shorter than the command.
-    NoRoom,
-}
-
-// What closing a reply came to.
-pub enum Closed {
-    // The reply stands at the front of the room, this many bytes.
-    Reply(usize),
-    // 917E: over 256 bytes with its MAC.
-    Over,
-    // The room is too small.
-    Small,
 }

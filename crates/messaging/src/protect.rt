@@ -2,12 +2,11 @@
 ghost use mathlib.Core.Path.{_≡_};
 ghost use mathlib.Core.List.{_∷_, _++_};
 ghost use Prim.Native.Nat.{_≤_};
-ghost use lib.ListN.{length, replicate};
+ghost use lib.ListN.{length, take, replicate};
 ghost use Rattle.base.specs.Bytes.{low};
 ghost use Rattle.aes.specs.Block.{cipher};
-ghost use Rattle.key_expansion.specs.Keys.{keyExpansion};
-ghost use Rattle.messaging.specs.Protect.{messageMac, commandIv, replyIv};
-ghost use Rattle.aes.specs.Cmac.{mac};
+ghost use Rattle.messaging.specs.Protect.{messageMac, commandVector, replyVector, commandIv, replyIv};
+ghost use Rattle.cmac.specs.Cmac.{mac};
 use crate::Session;
 
 // The eight bytes over a first byte, CmdCtr, TI and a body.
@@ -23,16 +22,19 @@ fn mac_over(key: [u8; 16], first: u8, counter: u16, ti: [u8; 4], body: &[u8]) ->
     base::put(body, &mut b, 7);
     let e = 7 + body.len();
     let w = key_expansion::expand(key);
-    aes::mac_of(&w, &b[..e])
+    cmac::mac_of(&w, &b[..e])
 }
 
-// The MAC of a command or a reply: its first byte is the command's or the return code.
+// The MAC of a command or a reply: its first byte is the command's or the return code. No body has over 293 bytes; of a longer
+// one the first 293 count.
 pub fn message_mac(s: Session, first: u8, body: &[u8]) -> [u8; 8]
-    requires { ⌜ length (now body) ≤ 293 ⌝ }
-    ensures { λ r. ⌜ r ≡ messageMac s first (now (body .entry)) ⌝ }
+    ensures { λ r. ⌜ r ≡ messageMac s first (take 293 (now (body .entry))) ⌝ }
 {
     let key = s.mac;
     let ti = s.ti;
+    if 293 < body.len() {
+        return mac_over(key, first, s.counter, ti, &body[..293]);
+    }
     mac_over(key, first, s.counter, ti, body)
 }
 
@@ -63,19 +65,17 @@ fn vector(w: &[[u8; 16]; 11], l: u8, m: u8, ti: [u8; 4], counter: u16) -> [u8; 1
     aes::encrypt(w, b)
 }
 
-// The vector of a command's data, under the round keys of the session.
+// The vector of a command's data, under round keys.
 pub fn command_vector(w: &[[u8; 16]; 11], s: Session) -> [u8; 16]
-    requires { ⌜ now w ≡ keyExpansion (s .enc) ⌝ }
-    ensures { λ r. ⌜ r ≡ commandIv s ⌝ }
+    ensures { λ r. ⌜ r ≡ commandVector (now (w .entry)) s ⌝ }
 {
     let ti = s.ti;
     vector(w, 0xA5, 0x5A, ti, s.counter)
 }
 
-// The vector of a reply's data, under the round keys of the session.
+// The vector of a reply's data, under round keys.
 pub fn reply_vector(w: &[[u8; 16]; 11], s: Session) -> [u8; 16]
-    requires { ⌜ now w ≡ keyExpansion (s .enc) ⌝ }
-    ensures { λ r. ⌜ r ≡ replyIv s ⌝ }
+    ensures { λ r. ⌜ r ≡ replyVector (now (w .entry)) s ⌝ }
 {
     let ti = s.ti;
     vector(w, 0x5A, 0xA5, ti, s.counter)

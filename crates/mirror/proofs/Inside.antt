@@ -6,12 +6,12 @@ use Prim.Native.Nat.{ℕ, _≤_}
 use borrow.Author.Tests.{leb-true, le-leb}
 use Rattle.base.specs.Decide.{pick, and}
 use Rattle.base.proofs.Bytes.{and-left, and-right}
-use Rattle.fields.specs.declared.Span.{Span}
+use Rattle.spans.specs.declared.Span.{Span}
 use Rattle.fields.specs.declared.Settings.{Settings}
-use Rattle.fields.specs.declared.Reading.{Reading}
+use Rattle.spans.specs.declared.Reading.{Reading}
 use Rattle.settings.specs.declared.Verdict.the-variants.{Good}
 use Rattle.fields.specs.Fields.{readOf}
-use Rattle.fields.specs.Spans.{spansOf, readingOf, endOf, inside}
+use Rattle.spans.specs.Spans.{spansOf, readingOf, endOf, inside}
 use Rattle.settings.specs.Answers.{judged}
 use Rattle.meanings.specs.Placing.{Placed}
 use Rattle.meanings.proofs.Mirrors.{good-placed}

@@ -11,9 +11,9 @@ use Rattle.base.specs.Decide.{pick, or}
 use Rattle.base.specs.Bytes.{laid, over}
 use Rattle.base.proofs.Bytes.{laid-not}
 use Rattle.lines.specs.Hex.{charsOf, charsRoom}
-use Rattle.aes.specs.Cbc.{across, sealed, cbcOut}
-use Rattle.fields.specs.declared.Span.{Span}
-use Rattle.fields.specs.declared.Reading.{Reading}
+use Rattle.cbc.specs.Cbc.{across, sealed, cbcOut}
+use Rattle.spans.specs.declared.Span.{Span}
+use Rattle.spans.specs.declared.Reading.{Reading}
 use Rattle.mirror.specs.declared.Mirror.{Mirror}
 use Rattle.mirror.specs.Mirrors.{mirrorAt, stretch, withEnc, withMac}
 

@@ -10,8 +10,8 @@ use Rattle.base.specs.Decide.{pick}
 use Rattle.base.specs.Bytes.{AllBytes, laid}
 use Rattle.base.proofs.Bytes.{laid-length, append-bytes, take-bytes, drop-bytes}
 use Rattle.lines.specs.Hex.{charOf, charsOf}
-use Rattle.fields.specs.declared.Span.{Span}
-use Rattle.fields.specs.declared.Reading.{Reading}
+use Rattle.spans.specs.declared.Span.{Span}
+use Rattle.spans.specs.declared.Reading.{Reading}
 use Rattle.mirror.specs.declared.Laid.{Laid}
 use Rattle.mirror.specs.declared.Mirror.{Mirror}
 use Rattle.mirror.specs.Mirrors.{mirrorAt, withUid, withCounter, withPicc, withEnc, withMac, dynamicData, allInside, laidOf}

@@ -6,13 +6,13 @@ use lib.ListN.{take, drop}
 use Rattle.base.specs.Decide.{pick, and}
 use Rattle.base.specs.Bytes.{laid}
 use Rattle.lines.specs.Hex.{charsOf}
-use Rattle.aes.specs.Cbc.{cbcOut}
+use Rattle.cbc.specs.Cbc.{cbcOut}
 use Rattle.key_expansion.specs.Keys.{keyExpansion}
-use Rattle.aes.specs.Cmac.{mac}
+use Rattle.cmac.specs.Cmac.{mac}
 use Rattle.sdm.specs.Tap.{piccData, tapKeys, tapIv}
-use Rattle.fields.specs.Spans.{inside}
-use Rattle.fields.specs.declared.Span.{Span}
-use Rattle.fields.specs.declared.Reading.{Reading}
+use Rattle.spans.specs.Spans.{inside}
+use Rattle.spans.specs.declared.Span.{Span}
+use Rattle.spans.specs.declared.Reading.{Reading}
 use Rattle.mirror.specs.declared.Laid.{Laid}
 use Rattle.mirror.specs.declared.Mirror.{Mirror}
 

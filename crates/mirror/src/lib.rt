@@ -4,15 +4,15 @@ ghost use mathlib.Core.Path.{_≡_};
 ghost use Prim.Native.Nat.{_%_, _≤_};
 ghost use lib.ListN.{length};
 ghost use Rattle.base.specs.Decide.{and, or};
-ghost use Rattle.aes.specs.Cbc.{cbcOut};
+ghost use Rattle.cbc.specs.Cbc.{cbcOut};
 ghost use Rattle.key_expansion.specs.Keys.{keyExpansion};
-ghost use Rattle.aes.specs.Cmac.{mac};
+ghost use Rattle.cmac.specs.Cmac.{mac};
 ghost use Rattle.sdm.specs.Tap.{tapIv};
-ghost use Rattle.fields.specs.Spans.{endOf, inside};
+ghost use Rattle.spans.specs.Spans.{endOf, inside};
 ghost use Rattle.mirror.specs.Mirrors.{mirrorAt, stretch, highFirst, withUid, withCounter, withPicc, encData, withEnc, withMac, dynamicData, allInside, laidOf};
-use fields::Reading;
-use fields::Span;
 use sdm::Tap;
+use spans::Reading;
+use spans::Span;
 
 // File 2 as a tap shows it, or as it was where a span does not end inside it.
 pub struct Laid {

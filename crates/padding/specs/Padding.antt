@@ -44,7 +44,7 @@ pub record Pads (n : ℕ) (old : List ℕ) (r : Padded) (new : List ℕ) : Type 
   pub told : r ≡ padding old n
   pub left : new ≡ paddedIn old n
 
--- 01's status for each answer: wrong padding is 911E (crates/messaging/proofs/Answers.antt: unpad-status)
+-- 01's status for each answer: wrong padding is 911E (crates/opening/proofs/Answers.antt: unpad-status)
 unfoldable pub unpaddedStatus : Unpadded → ℕ
 unpaddedStatus (Text n) = 0x9100
 unpaddedStatus Wrong = 0x911E

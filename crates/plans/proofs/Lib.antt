@@ -1,2 +1,2 @@
-pub mod Tidying
-pub mod Begins
+pub mod Long
+pub mod Numbering

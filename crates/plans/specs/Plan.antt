@@ -1,15 +1,15 @@
--- A line of a plan.
+-- What a line of a plan means.
 use mathlib.Core.Bool.{Bool, false}
 use mathlib.Core.List.{List, [], _∷_}
-use Prim.Native.Nat.{ℕ, _+_, _-_, _/_}
+use Prim.Native.Nat.{ℕ, _+_}
 use lib.Dec.{eqb, leb, ltb}
 use lib.ListN.{length, take, drop}
-use Rattle.base.specs.Decide.{pick, and, or}
-use Rattle.base.specs.Bytes.{over}
+use Rattle.base.specs.Decide.{pick, or}
 use Rattle.lines.specs.Lines.{seek}
-use Rattle.lines.specs.Hex.{digitOf, isHex, bytesOf, decoded, decodedRoom}
+use Rattle.lines.specs.Hex.{digitOf, decoded, decodedRoom}
 use Rattle.lines.specs.declared.Decoded.{Decoded}
 use Rattle.lines.specs.declared.Decoded.the-variants.{Bytes, NotHex, RoomTooSmall}
+use Rattle.first_lines.specs.Said.{goodBytes, bytesRoom}
 use Rattle.plans.specs.declared.Reason.{Reason}
 use Rattle.plans.specs.declared.Reason.the-variants.{NoCommand, Stray, OddDigits, TooLong, BadRandom, BadExpected}
 use Rattle.plans.specs.declared.Line.{Line}
@@ -17,23 +17,6 @@ use Rattle.plans.specs.declared.Meaning.{Meaning}
 use Rattle.plans.specs.declared.Meaning.the-variants.{Blank, Drawn, Given, Bad}
 use Rattle.plans.specs.declared.parts.Digits.{Digits}
 use Rattle.plans.specs.declared.parts.Digits.the-variants.{Fine, Wrong}
-
--- a space, a tab, a carriage return
-unfoldable pub isBlank : ℕ → Bool
-isBlank c = or (eqb c 32) (or (eqb c 9) (eqb c 13))
-
--- a to f as A to F
-unfoldable pub capitalOf : ℕ → ℕ
-capitalOf c = pick (and (leb 97 c) (leb c 102)) (c - 32) c
-
--- the characters that count, as capitals
-unfoldable pub tidied : List ℕ → List ℕ
-tidied [] = []
-tidied (x ∷ xs) = pick (isBlank x) (tidied xs) (capitalOf x ∷ tidied xs)
-
--- what stands before '#', tidied
-unfoldable pub said : List ℕ → List ℕ
-said line = tidied (take (seek line 0 35) line)
 
 -- a character that is no digit
 unfoldable pub strayIn : List ℕ → Bool
@@ -51,13 +34,6 @@ digitsOf s room = pick (eqb (length s) 0) (Wrong NoCommand) (pick (strayIn s) (W
 
 unfoldable pub digitsRoom : List ℕ → List ℕ → List ℕ
 digitsRoom s room = pick (eqb (length s) 0) room (pick (strayIn s) room (decodedRoom s room))
-
--- a text that is n bytes: the random bytes, or the UID
-unfoldable pub goodBytes : ℕ → List ℕ → Bool
-goodBytes n s = and (eqb (length s / 2) n) (isHex s)
-
-unfoldable pub bytesRoom : List ℕ → List ℕ → List ℕ
-bytesRoom s room = pick (goodBytes (length room) s) (over (bytesOf s) room) room
 
 -- where '/' stands, else the end; what is before it and what is behind it
 unfoldable pub slash : List ℕ → ℕ

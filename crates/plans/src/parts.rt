@@ -1,8 +1,9 @@
 // The characters of a line: those that count, the digits among them, and what they mean.
 ghost use mathlib.Core.Path.{_≡_};
-ghost use lib.ListN.{length, take};
-ghost use Rattle.base.specs.Bytes.{over};
-ghost use Rattle.plans.specs.Plan.{isBlank, capitalOf, tidied, strayIn, digitsOf, digitsRoom, goodBytes, bytesRoom};
+ghost use lib.ListN.{length};
+ghost use Rattle.first_lines.specs.Said.{goodBytes, bytesRoom};
+ghost use Rattle.plans.specs.Numbers.{digitsNumber, digitsCase};
+ghost use Rattle.plans.specs.Plan.{strayIn, digitsOf, digitsRoom};
 ghost use Rattle.plans.specs.Plan.{givenBy, drawnBy, meaningOf, commandRoom, randomRoom, badLine, wantedBy, expectingBy};
 ghost use Rattle.plans.specs.Plan.{lineOf, lineCommand, lineRandom, lineExpected};
 use crate::Line;
@@ -14,54 +15,6 @@ use lines::Decoded;
 pub enum Digits {
     Fine(usize),
     Wrong(Reason),
-}
-
-// A space, a tab, and the carriage return that may stand before a line's end.
-pub fn is_blank(c: u8) -> bool
-    ensures { λ r. ⌜ r ≡ isBlank c ⌝ }
-{
-    if c == 32 {
-        return true;
-    }
-    if c == 9 {
-        return true;
-    }
-    c == 13
-}
-
-// A digit a to f as A to F; any other character as it is.
-fn capital(c: u8) -> u8
-    ensures { λ r. ⌜ r ≡ capitalOf c ⌝ }
-{
-    if 97 <= c {
-        if c <= 102 {
-            return c - 32;
-        }
-    }
-    c
-}
-
-// The characters that count, as capitals, at the front of the room, as many as it takes.
-pub fn tidy(line: &[u8], room: &mut [u8]) -> usize
-    ensures count { λ r. ⌜ r ≡ length (take (length (now (room .entry))) (tidied (now (line .entry)))) ⌝ }
-    ensures left { λ r. ⌜ now (room .exit) ≡ over (take (length (now (room .entry))) (tidied (now (line .entry)))) (now (room .entry)) ⌝ }
-{
-    let mut i = 0;
-    let mut n = 0;
-    while i < line.len() {
-        if is_blank(line[i]) {
-            i += 1;
-            continue;
-        }
-        if n == room.len() {
-            return n;
-        }
-        let c = [capital(line[i])];
-        base::put(&c, room, n);
-        n += 1;
-        i += 1;
-    }
-    n
 }
 
 // Whether a character is no digit.
@@ -82,6 +35,7 @@ fn stray(s: &[u8]) -> bool
 fn command_bytes(s: &[u8], room: &mut [u8]) -> Digits
     ensures answer { λ r. ⌜ r ≡ digitsOf (now (s .entry)) (now (room .entry)) ⌝ }
     ensures left { λ r. ⌜ now (room .exit) ≡ digitsRoom (now (s .entry)) (now (room .entry)) ⌝ }
+    ensures number { λ r. ⌜ digitsNumber r ≡ digitsCase (now (s .entry)) (now (room .entry)) ⌝ }
 {
     if s.len() == 0 {
         return Digits::Wrong(Reason::NoCommand);
@@ -97,28 +51,13 @@ fn command_bytes(s: &[u8], room: &mut [u8]) -> Digits
     }
 }
 
-// Whether a text is as many bytes as the room has; they are then in it.
-pub fn bytes_given(s: &[u8], room: &mut [u8]) -> bool
-    ensures answer { λ r. ⌜ r ≡ goodBytes (length (now (room .entry))) (now (s .entry)) ⌝ }
-    ensures left { λ r. ⌜ now (room .exit) ≡ bytesRoom (now (s .entry)) (now (room .entry)) ⌝ }
-{
-    if s.len() / 2 != room.len() {
-        return false;
-    }
-    if lines::is_hex(s) {
-        lines::decode(s, room);
-        return true;
-    }
-    false
-}
-
 // A command and the random bytes behind its '/'.
 fn with_random(front: &[u8], back: &[u8], command: &mut [u8], random: &mut [u8]) -> Meaning
     ensures answer { λ r. ⌜ r ≡ givenBy (goodBytes (length (now (random .entry))) (now (back .entry))) (digitsOf (now (front .entry)) (now (command .entry))) ⌝ }
     ensures command { λ r. ⌜ now (command .exit) ≡ digitsRoom (now (front .entry)) (now (command .entry)) ⌝ }
     ensures random { λ r. ⌜ now (random .exit) ≡ bytesRoom (now (back .entry)) (now (random .entry)) ⌝ }
 {
-    let good = bytes_given(back, random);
+    let good = first_lines::bytes_given(back, random);
     let d = command_bytes(front, command);
     match d {
         Digits::Wrong(r) => Meaning::Bad(r),

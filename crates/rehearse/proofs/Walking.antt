@@ -4,21 +4,17 @@ use mathlib.Core.Bool.{Bool, true, false}
 use mathlib.Core.List.{List, []}
 use Prim.Native.Nat.{ℕ, zero, suc, _+_, _-_, _≤_, _<_}
 use native.Mathlib.Omega.{arith}
-use lib.Dec.{ltb}
-use lib.ListN.{length, take, drop, replicate, length-drop, drop-of-length-le}
+use lib.ListN.{length, take, drop, length-drop, drop-of-length-le}
 use lib.Seq.{drop-drop}
 use borrow.Author.Tests.{ne-eqb}
 use Rattle.lines.specs.Lines.{before, seek}
 use Rattle.state.specs.declared.Tag.{Tag}
-use Rattle.rehearse.specs.declared.walk.Went.{Went}
-use Rattle.rehearse.specs.declared.walk.Turn.{Turn}
+use Rattle.turns.specs.declared.Went.{Went}
+use Rattle.turns.specs.declared.Turn.{Turn}
 use Rattle.rehearse.specs.declared.walk.Tally.{Tally}
 use Rattle.rehearse.specs.declared.walk.Rehearsal.{Rehearsal}
 use Rattle.base.specs.Decide.{pick}
-use Rattle.plans.specs.Plan.{said, lineCommand, lineRandom, lineExpected}
-use Rattle.plans.specs.declared.Line.{Line}
-use Rattle.verdict.specs.Replies.{statusIn, refusing, differing}
-use Rattle.rehearse.specs.Steps.{toldBy, wentBy, played, stays, Drew, Draws, CarriedLine, lineIn, Stepped}
+use Rattle.turns.specs.Steps.{Stepped}
 use Rattle.rehearse.specs.Counts.{moreBy, firstBy, countedBy, noTally, Below, Walked}
 
 none-left : (f k : ℕ) (t : Tag) (n : Tally) → Walked f k [] t n (record { tag = t; tally = n })
@@ -91,35 +87,7 @@ below-more m k n e h =
       unmet = omega (arith, h .unmet);
     }
 
--- ---- what a line did, by what was computed for it
-pub told-is : (t : Tag) (reply expected : List ℕ) (s : ℕ) (f u : Bool) → s ≡ statusIn reply → f ≡ refusing s → u ≡ differing expected reply
-    → _≡_ {A = Turn}
-    (record {
-      tag = t;
-      went = record {
-        played = true;
-        refused = f;
-        skipped = false;
-        undrawn = false;
-        expecting = ltb 0 (length expected);
-        unmet = u;
-      };
-    })
-    (toldBy t reply expected)
-unfolding toldBy wentBy
-told-is t reply expected s f u p q r =
-    λ i. record {
-      tag = t;
-      went = record {
-        played = true;
-        refused = (q ∙ ap refusing p) i;
-        skipped = false;
-        undrawn = false;
-        expecting = ltb 0 (length expected);
-        unmet = r i;
-      };
-    }
-
+-- the counts, by what was computed for them
 pub counted-is : (n : Tally) (k : ℕ) (w : Went) {a b c d e f g : ℕ} → a ≡ moreBy (n .exchanges) (w .played)
     → b ≡ moreBy (n .refused) (w .refused) → c ≡ moreBy (n .skipped) (w .skipped) → d ≡ moreBy (n .undrawn) (w .undrawn)
     → e ≡ moreBy (n .expecting) (w .expecting) → f ≡ moreBy (n .unmet) (w .unmet) → g ≡ firstBy (n .first) (n .unmet) (w .unmet) k
@@ -137,30 +105,3 @@ counted-is n k w pa pb pc pd pe pf pg =
       unmet = pf i;
       first = pg i;
     }
-
--- the machine gave random bytes, and it gave none
-played-drew : (t : Tag) (c random expected : List ℕ) (r : Turn) → r ≡ played t c random expected → r .went .undrawn ≡ false
-unfolding played toldBy wentBy
-played-drew t c random expected r p = ap (λ (m : Turn). m .went .undrawn) p
-
-pub drew : (t : Tag) (c random expected : List ℕ) (r : Turn) → length random ≡ 20 → r ≡ played t c random expected → Draws t c expected r
-unfolding Draws
-drew t c random expected r h p =
-    subst (λ (b : Bool). pick b (r ≡ stays t true true) (Drew t c expected r)) (sym (played-drew t c random expected r p))
-    (record { random = random; twenty = h; is = p })
-
-stays-undrawn : (t : Tag) (r : Turn) → r ≡ stays t true true → r .went .undrawn ≡ true
-unfolding stays
-stays-undrawn t r p = ap (λ (m : Turn). m .went .undrawn) p
-
-pub undrew : (t : Tag) (c expected : List ℕ) (r : Turn) → r ≡ stays t true true → Draws t c expected r
-unfolding Draws
-undrew t c expected r p =
-    subst (λ (b : Bool). pick b (r ≡ stays t true true) (Drew t c expected r)) (sym (stays-undrawn t r p)) p
-
--- a line by what it was read as
-pub stepped-is : (t : Tag) (line : List ℕ) (l : Line) (c x w : List ℕ) (r : Turn) → l ≡ lineIn (said line)
-    → c ≡ lineCommand (said line) (replicate 512 0) → x ≡ lineRandom (said line) (replicate 20 0)
-    → w ≡ lineExpected (said line) (replicate 258 0) → CarriedLine l t c x w r → Stepped t line r
-unfolding Stepped
-stepped-is t line l c x w r p q s u h = rw (sym p, sym q, sym s, sym u) h

@@ -8,11 +8,11 @@ use lib.ListN.{length, take, drop}
 use Rattle.base.specs.Decide.{pick, and}
 use Rattle.lines.specs.Lines.{before}
 use Rattle.state.specs.declared.Tag.{Tag}
-use Rattle.rehearse.specs.declared.walk.Went.{Went}
-use Rattle.rehearse.specs.declared.walk.Turn.{Turn}
+use Rattle.turns.specs.declared.Went.{Went}
+use Rattle.turns.specs.declared.Turn.{Turn}
 use Rattle.rehearse.specs.declared.walk.Tally.{Tally}
 use Rattle.rehearse.specs.declared.walk.Rehearsal.{Rehearsal}
-use Rattle.rehearse.specs.Steps.{Stepped}
+use Rattle.turns.specs.Steps.{Stepped}
 
 -- one more where it is so
 unfoldable pub moreBy : ℕ → Bool → ℕ

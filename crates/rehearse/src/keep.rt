@@ -3,21 +3,23 @@ ghost use Rattle.io.specs.Counts.{Counts};
 use libc::STDERR_FILENO;
 use state::Tag;
 
+// Three texts on standard error.
+pub fn warn(a: &[u8], b: &[u8], c: &[u8]) {
+    io::write_all(STDERR_FILENO, a);
+    io::write_all(STDERR_FILENO, b);
+    io::write_all(STDERR_FILENO, c);
+}
+
 // Names a file that a run can't start from, and why.
 pub fn refuse(path: &[u8], why: &[u8]) {
-    io::write_all(STDERR_FILENO, b"rehearse: ");
-    io::write_all(STDERR_FILENO, path);
-    io::write_all(STDERR_FILENO, b": ");
-    io::write_all(STDERR_FILENO, why);
-    io::write_all(STDERR_FILENO, b"; nothing was rehearsed\n");
+    warn(b"rehearse: ", path, b": ");
+    warn(why, b"; nothing was rehearsed", b"\n");
 }
 
 // Says by errno what a call on a file failed for, and what follows. It comes just behind that call.
 pub fn fail(path: &[u8], so: &[u8]) {
     os::fail(path);
-    io::write_all(STDERR_FILENO, b"rehearse: ");
-    io::write_all(STDERR_FILENO, so);
-    io::write_all(STDERR_FILENO, b"\n");
+    warn(b"rehearse: ", so, b"\n");
 }
 
 // Whether a path is a symbolic link.
@@ -161,7 +163,7 @@ fn replaced(path: &[u8], name: &[u8], s: &[u8]) {
 // The tag's image goes to FILE.new, whole, and then to the file.
 pub fn store(fd: i32, path: &[u8], name: &[u8], tag: Tag) {
     let mut s = [0u8; 672];
-    image::to_image(tag, &mut s);
+    storing::to_image(tag, &mut s);
     if written(fd, &s) {
         libc::close(fd);
         return replaced(path, name, &s);

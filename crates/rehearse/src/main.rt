@@ -2,10 +2,10 @@
 // command's 20 random bytes, and '=' what its reply must be. Prints each exchange, what the tag is then, and last how it went. With
 // --image FILE the tag is the one whose image FILE holds, and FILE holds its image then; where there is no FILE, it is made.
 ghost use Prim.Native.Nat.{_≤_};
-use keeping::Asked;
+use arguments::Asked;
+use delivery::Made;
 use keeping::Begun;
 use keeping::Start;
-use state::Made;
 use state::Tag;
 use walk::Tally;
 
@@ -22,21 +22,20 @@ struct Ran {
     tally: Tally,
 }
 
+fn start_of(m: Made) -> Start {
+    match m {
+        Made::Fresh => Start::Ready,
+        Made::WrongUid => Start::NoUid,
+    }
+}
+
 // The fresh tag.
 fn anew(uid: &[u8; 7]) -> Begun {
     let b = tag::fresh(uid);
     let tag = b.tag;
     let m = b.made;
-    match m {
-        Made::Fresh => Begun {
-            start: Start::Ready,
-            tag,
-        },
-        Made::WrongUid => Begun {
-            start: Start::NoUid,
-            tag,
-        },
-    }
+    let start = start_of(m);
+    Begun { start, tag }
 }
 
 // The tag of an open file. A byte more than an image has is read too, to see one that is too long.
@@ -45,6 +44,17 @@ fn resumed(fd: i32, uid: &[u8; 7]) -> Begun {
     let n = io::read_full(fd, &mut s);
     libc::close(fd);
     keeping::kept(&s[..n], uid)
+}
+
+// A file that can't be read.
+fn unread(path: &[u8], uid: &[u8; 7]) -> Begun {
+    keep::fail(path, b"nothing was rehearsed");
+    let b = anew(uid);
+    let tag = b.tag;
+    Begun {
+        start: Start::Unread,
+        tag,
+    }
 }
 
 // The tag of the file, or a fresh one where there is no file or none is named.
@@ -59,26 +69,26 @@ fn begin(path: &[u8], uid: &[u8; 7]) -> Begun {
     if os::errno() == libc::ENOENT {
         return anew(uid);
     }
-    keep::fail(path, b"nothing was rehearsed");
-    let b = anew(uid);
-    let tag = b.tag;
-    Begun {
-        start: Start::Unread,
-        tag,
+    unread(path, uid)
+}
+
+// Says why nothing is rehearsed with the tag of a file.
+fn refused(path: &[u8], s: Start) {
+    match s {
+        Start::NotABit => keep::refuse(path, b"a Boolean in it is neither 0 nor 1"),
+        Start::Unsound => keep::refuse(path, b"its state is not sound"),
+        Start::OtherUid => keep::refuse(path, b"the plan's UID is not its tag's"),
+        _ => {}
     }
 }
 
 // Says why nothing is rehearsed.
 fn complain(path: &[u8], number: u64, s: Start) {
     match s {
-        Start::Ready => {}
         Start::OtherLength => keep::refuse(path, b"it can't be read as an image of 672 bytes"),
         Start::OtherVersion => keep::refuse(path, b"its version is not 1"),
-        Start::NotABit => keep::refuse(path, b"a Boolean in it is neither 0 nor 1"),
-        Start::Unsound => keep::refuse(path, b"its state is not sound"),
-        Start::OtherUid => keep::refuse(path, b"the plan's UID is not its tag's"),
         Start::NoUid => show::no_uid(number),
-        Start::Unread => {}
+        _ => refused(path, s),
     }
 }
 
@@ -115,34 +125,50 @@ fn go_on(path: &[u8], b: Begun, text: &[u8], from: usize, number: u64) -> Ran
     }
 }
 
+// The tag that a run starts from, where the line is its UID.
+fn first_tag(path: &[u8], line: &[u8]) -> Begun {
+    let mut uid = [0u8; 7];
+    if first_lines::line_uid(line, &mut uid) {
+        return begin(path, &uid);
+    }
+    anew(&uid)
+}
+
 // Rehearses a plan: the first line that is not blank is the UID.
 fn run(path: &[u8], text: &[u8]) -> Ran {
-    let h = plans::first_line(text);
-    let mut uid = [0u8; 7];
+    let h = first_lines::first_line(text);
     let start = h.start;
     let end = h.end;
-    if plans::line_uid(&text[start..end], &mut uid) {
-        return go_on(path, begin(path, &uid), text, end + 1, h.number);
+    let b = first_tag(path, &text[start..end]);
+    go_on(path, b, text, end + 1, h.number)
+}
+
+// No run took place.
+fn no_run() -> Ran {
+    let b = anew(&[0; 7]);
+    let tag = b.tag;
+    let tally = walk::none();
+    Ran {
+        ready: false,
+        tag,
+        tally,
     }
-    go_on(path, anew(&uid), text, end + 1, h.number)
+}
+
+// Reads a plan into a room that is larger than any, and rehearses it.
+fn play_in(path: &[u8], text: &mut [u8]) -> Ran {
+    let n = io::read_full(0, text);
+    if n == text.len() {
+        show::too_long();
+        return no_run();
+    }
+    run(path, &text[..n])
 }
 
 // Reads and rehearses the plan. The path is empty where no tag is kept.
 fn play(path: &[u8]) -> Ran {
     let mut text = [0u8; 262144];
-    let n = io::read_full(0, &mut text);
-    if n == 262144 {
-        show::too_long();
-        let b = anew(&[0; 7]);
-        let tag = b.tag;
-        let tally = walk::none();
-        return Ran {
-            ready: false,
-            tag,
-            tally,
-        };
-    }
-    run(path, &text[..n])
+    play_in(path, &mut text)
 }
 
 // The same, and no tag is kept.
@@ -167,7 +193,7 @@ fn play_held(fd: i32, path: &[u8], name: &[u8]) -> Tally {
 // The same with a file whose name is whole: FILE.new is held from here to the end.
 fn play_target(path: &[u8]) -> Tally {
     let mut name = [0u8; 4096];
-    let n = keeping::beside(path, &mut name);
+    let n = arguments::beside(path, &mut name);
     let fd = keep::hold(&name[..n]);
     if fd < 0 {
         return walk::none();
@@ -194,16 +220,22 @@ fn play_kept() -> Tally {
     play_target(&to[..m])
 }
 
+fn unknown(argument: &[u8]) {
+    keep::warn(
+        b"rehearse: unknown argument ",
+        argument,
+        b"; the plan comes on standard input\n",
+    );
+}
+
 // Names an argument that is not known. One that is empty or has more than 256 bytes is named so.
 fn refuse_argument(i: usize) {
     let mut a = [0u8; 256];
     let n = os::arg(i, &mut a);
-    io::write_all(libc::STDERR_FILENO, b"rehearse: unknown argument ");
     if n == 0 {
-        io::write_all(libc::STDERR_FILENO, b"(empty or too long)");
+        return unknown(b"(empty or too long)");
     }
-    io::write_all(libc::STDERR_FILENO, &a[..n]);
-    io::write_all(libc::STDERR_FILENO, b"; the plan comes on standard input\n");
+    unknown(&a[..n]);
 }
 
 // Whether the first argument is --image.
@@ -230,6 +262,6 @@ fn started(a: Asked) -> Tally {
 }
 
 fn main() {
-    let a = keeping::asks(os::arg_count(), names_image());
+    let a = arguments::asks(os::arg_count(), names_image());
     show::last(started(a));
 }

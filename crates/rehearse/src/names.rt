@@ -1,56 +1,85 @@
 // What a status means: Tables 23 and 24 of the data sheet.
 use crate::show::say;
 
-// CLA 90, by SW2 (Table 23).
-fn wrapped(sw2: u16) {
-    match sw2 {
-        0x00 => say(b"OPERATION_OK: Successful operation."),
-        0x1C => say(b"ILLEGAL_COMMAND_CODE: Command code not supported."),
-        0x1E => say(b"INTEGRITY_ERROR: CRC or MAC does not match data. Padding bytes not valid."),
-        0x40 => say(b"NO_SUCH_KEY: Invalid key number specified."),
-        0x7E => say(b"LENGTH_ERROR: Length of command string invalid."),
-        0x9D => say(
-            b"PERMISSION_DENIED: Current configuration / status does not allow the requested command.",
-        ),
-        0x9E => say(b"PARAMETER_ERROR: Value of the parameter(s) invalid."),
-        0xAD => say(b"AUTHENTICATION_DELAY: Currently not allowed to authenticate."),
-        0xAE => say(
-            b"AUTHENTICATION_ERROR: Current authentication status does not allow the requested command.",
-        ),
-        0xAF => say(b"ADDITIONAL_FRAME: Additional data frame is expected to be sent."),
-        0xBE => say(b"BOUNDARY_ERROR: Attempt to exceed the limits of a file."),
-        0xCA => say(b"COMMAND_ABORTED: Previous command was not fully completed."),
-        0xF0 => say(b"FILE_NOT_FOUND: Specified file number does not exist."),
-        _ => say(b"not in Table 23."),
+// Says what stands behind the four digits of a row, where they are the key.
+fn is_named(row: &[u8], key: &[u8]) -> bool {
+    if row.len() < 4 {
+        return false;
     }
+    if base::alike(&row[..4], key) {
+        say(&row[4..]);
+        return true;
+    }
+    false
+}
+
+// The first row of a table that has the key, or else another text.
+fn look_up(table: &[u8], key: &[u8], other: &[u8]) {
+    let mut at = 0;
+    while at < table.len() {
+        let end = lines::find(table, at, b'\n');
+        let next = end + 1;
+        if is_named(&table[at..end], key) {
+            return;
+        }
+        at = next;
+    }
+    say(other);
+}
+
+// CLA 90 (Table 23).
+fn wrapped(key: &[u8]) {
+    look_up(
+        b"9100OPERATION_OK: Successful operation.\n\
+911CILLEGAL_COMMAND_CODE: Command code not supported.\n\
+911EINTEGRITY_ERROR: CRC or MAC does not match data. Padding bytes not valid.\n\
+9140NO_SUCH_KEY: Invalid key number specified.\n\
+917ELENGTH_ERROR: Length of command string invalid.\n\
+919DPERMISSION_DENIED: Current configuration / status does not allow the requested command.\n\
+919EPARAMETER_ERROR: Value of the parameter(s) invalid.\n\
+91ADAUTHENTICATION_DELAY: Currently not allowed to authenticate.\n\
+91AEAUTHENTICATION_ERROR: Current authentication status does not allow the requested command.\n\
+91AFADDITIONAL_FRAME: Additional data frame is expected to be sent.\n\
+91BEBOUNDARY_ERROR: Attempt to exceed the limits of a file.\n\
+91CACOMMAND_ABORTED: Previous command was not fully completed.\n\
+91F0FILE_NOT_FOUND: Specified file number does not exist.\n",
+        key,
+        b"not in Table 23.",
+    );
 }
 
 // CLA 00 (Table 24), but for 6C and a number.
-fn inter_industry(status: u16) {
-    match status {
-        0x6700 => say(b"Wrong length; no further indication."),
-        0x6982 => say(b"Security status not satisfied."),
-        0x6985 => say(b"Conditions of use not satisfied."),
-        0x6A80 => say(b"Incorrect parameters in the command data field."),
-        0x6A82 => say(b"File or application not found."),
-        0x6A86 => say(b"Incorrect parameters P1-P2."),
-        0x6A87 => say(b"Lc inconsistent with parameters P1-P2."),
-        0x6C00 => say(b"Wrong Le field."),
-        0x6D00 => say(b"Instruction code not supported or invalid."),
-        0x6E00 => say(b"Class not supported."),
-        0x9000 => say(b"Normal processing."),
-        _ => say(b"not in Table 24."),
-    }
+fn inter_industry(key: &[u8]) {
+    look_up(
+        b"6700Wrong length; no further indication.\n\
+6982Security status not satisfied.\n\
+6985Conditions of use not satisfied.\n\
+6A80Incorrect parameters in the command data field.\n\
+6A82File or application not found.\n\
+6A86Incorrect parameters P1-P2.\n\
+6A87Lc inconsistent with parameters P1-P2.\n\
+6C00Wrong Le field.\n\
+6D00Instruction code not supported or invalid.\n\
+6E00Class not supported.\n\
+9000Normal processing.\n",
+        key,
+        b"not in Table 24.",
+    );
 }
 
 pub fn name(status: u16) {
+    let mut key = [0u8; 4];
+    lines::encode(
+        &[(status / 256 % 256) as u8, (status % 256) as u8],
+        &mut key,
+    );
     if status / 256 == 0x91 {
-        return wrapped(status % 256);
+        return wrapped(&key);
     }
     if 0x6C01 <= status {
         if status <= 0x6CFF {
             return say(b"Wrong Le field; SW2 is the exact number of available data bytes.");
         }
     }
-    inter_industry(status);
+    inter_industry(&key);
 }

@@ -8,21 +8,52 @@ pub fn say(text: &[u8]) {
     io::write_all(STDOUT_FILENO, text);
 }
 
-pub fn say_number(n: u64) {
-    io::print_decimal(STDOUT_FILENO, n);
+// A number in decimal, or its last hexadecimal digit.
+fn say_value(n: u64, hex: bool) {
+    if hex {
+        say(&[lines::character((n % 16) as u8)]);
+    } else {
+        io::print_decimal(STDOUT_FILENO, n);
+    }
 }
 
-// A number behind a text.
-pub fn tell(text: &[u8], n: u64) {
-    say(text);
-    say_number(n);
+fn say_nth(numbers: &[u64], k: usize, hex: bool) {
+    if k < numbers.len() {
+        say_value(numbers[k], hex);
+    }
+}
+
+// A text with numbers, each where a '#' stands.
+fn form(text: &[u8], numbers: &[u64], hex: bool) {
+    let mut at = 0;
+    let mut k = 0;
+    while at < text.len() {
+        let end = lines::find(text, at, b'#');
+        let next = end + 1;
+        say(&text[at..end]);
+        if end < text.len() {
+            say_nth(numbers, k, hex);
+        }
+        k += 1;
+        at = next;
+    }
+}
+
+// The same in decimal.
+pub fn tell(text: &[u8], numbers: &[u64]) {
+    form(text, numbers, false);
+}
+
+// The same with a hexadecimal digit for each number.
+pub fn tell_digits(text: &[u8], numbers: &[u64]) {
+    form(text, numbers, true);
 }
 
 // The line that must be the UID is not.
 pub fn no_uid(number: u64) {
-    tell(b"line ", number);
-    say(
-        b": it must be the tag's UID, 7 bytes in hexadecimal, the first of them 04; nothing was rehearsed\n",
+    tell(
+        b"line #: it must be the tag's UID, 7 bytes in hexadecimal, the first of them 04; nothing was rehearsed\n",
+        &[number],
     );
 }
 
@@ -32,8 +63,7 @@ pub fn too_long() {
 
 // A line that is skipped, and why.
 pub fn skipped(number: u64, why: &[u8]) {
-    tell(b"line ", number);
-    say(b": ");
+    tell(b"line #: ", &[number]);
     say(why);
     say(b"; skipped\n");
 }
@@ -45,6 +75,13 @@ fn spaced(s: &[u8]) {
         say(&[b' ', lines::character(s[i] / 16), lines::character(s[i])]);
         i += 1;
     }
+}
+
+// The same between two texts.
+fn row(head: &[u8], s: &[u8], tail: &[u8]) {
+    say(head);
+    spaced(s);
+    say(tail);
 }
 
 fn is_printable(c: u8) -> bool {
@@ -128,6 +165,13 @@ fn settings_refused(command: &[u8], status: u16) {
     }
 }
 
+// A reply's bytes, and what its status means.
+fn named(r: &[u8], status: u16) {
+    row(b"<", r, b" : ");
+    name(status);
+    say(b"\n");
+}
+
 // A reply: data and two status bytes.
 fn reply(command: &[u8], r: &[u8]) {
     if r.len() < 2 {
@@ -136,49 +180,39 @@ fn reply(command: &[u8], r: &[u8]) {
     }
     let n = r.len() - 2;
     let status = verdict::status_of(r);
-    say(b"<");
-    spaced(r);
-    say(b" : ");
-    name(status);
-    say(b"\n");
+    named(r, status);
     text_of(&r[..n]);
     settings_refused(command, status);
 }
 
 // The command of a line, and its reply.
 pub fn exchange(number: u64, command: &[u8], r: &[u8]) {
-    tell(b"line ", number);
-    say(b" >");
-    spaced(command);
-    say(b"\n");
+    tell(b"line # ", &[number]);
+    row(b">", command, b"\n");
     reply(command, r);
 }
 
 // What was expected of a reply that differs.
 pub fn unlike(expected: &[u8]) {
-    say(b"  NOT AS EXPECTED:");
-    spaced(expected);
-    say(b"\n");
+    row(b"  NOT AS EXPECTED:", expected, b"\n");
 }
 
 // What was not as expected, where a plan expects anything.
-fn expectations(n: Tally) {
-    tell(b", ", n.unmet);
-    tell(b" of ", n.expecting);
-    say(b" not as expected");
-    if 0 < n.unmet {
-        tell(b", the first in line ", n.first);
+fn expectations(unmet: u64, expecting: u64, first: u64) {
+    tell(b", # of # not as expected", &[unmet, expecting]);
+    if 0 < unmet {
+        tell(b", the first in line #", &[first]);
     }
 }
 
 // The last line.
 pub fn last(n: Tally) {
-    say_number(n.exchanges);
-    tell(b" exchanges, ", n.refused);
-    tell(b" refused, ", n.skipped);
-    say(b" lines skipped");
+    tell(
+        b"# exchanges, # refused, # lines skipped",
+        &[n.exchanges, n.refused, n.skipped],
+    );
     if 0 < n.expecting {
-        expectations(n);
+        expectations(n.unmet, n.expecting, n.first);
     }
     say(b"\n");
 }

@@ -1,50 +1,45 @@
 // What the tag is at the end.
 use crate::show::say;
-use crate::show::say_number;
 use crate::show::tell;
+use crate::show::tell_digits;
 use fields::Head;
 use fields::Places;
-use fields::Reading;
+use spans::Reading;
 use state::Files;
 use state::Live;
 use state::Pending;
 use state::Place;
 use state::Tag;
 
-fn place(p: Place) {
-    if p.application {
+fn level(application: bool) {
+    if application {
         say(b"  level: application\n");
     } else {
         say(b"  level: PICC\n");
     }
-    say(b"  selected file: ");
-    if p.file == 0 {
-        say(b"none\n");
+}
+
+fn selected(file: u8) {
+    if file == 0 {
+        say(b"  selected file: none\n");
     } else {
-        say_number(p.file as u64);
-        say(b"\n");
+        tell(b"  selected file: #\n", &[file as u64]);
     }
 }
 
-// The session's key, and a part two that is pending.
-fn session(l: Live, p: Pending) {
-    say(b"  session: ");
-    if l.on {
-        tell(b"key ", l.key as u64);
-        tell(b", CmdCtr ", l.counter as u64);
+fn session(on: bool, key: u8, counter: u16) {
+    if on {
+        tell(b"  session: key #, CmdCtr #", &[key as u64, counter as u64]);
     } else {
-        say(b"none");
+        say(b"  session: none");
     }
-    if p.on {
-        tell(b", part two pending for key ", p.key as u64);
-    }
-    say(b"\n");
 }
 
-// A condition behind its name: a key's number, E (free) or F (never).
-fn condition(name: &[u8], v: u8) {
-    say(name);
-    say(&[lines::character(v)]);
+// A part two that is pending.
+fn pending(on: bool, key: u8) {
+    if on {
+        tell(b", part two pending for key #", &[key as u64]);
+    }
 }
 
 fn mode(m: u8) {
@@ -55,10 +50,10 @@ fn mode(m: u8) {
     }
 }
 
-// Where a mirror stands, behind its name.
-fn mirror(name: &[u8], present: bool, start: u32) {
+// Where a mirror stands.
+fn mirror(text: &[u8], present: bool, start: u32) {
     if present {
-        tell(name, start as u64);
+        tell(text, &[start as u64]);
     }
 }
 
@@ -76,46 +71,59 @@ fn encrypted(present: bool, uid: bool, counter: bool) {
     }
 }
 
+// A condition is a key's number, E (free) or F (never).
 fn rights(h: Head) {
     mode(h.mode);
-    condition(b", Read ", h.read);
-    condition(b", Write ", h.write);
-    condition(b", ReadWrite ", h.both);
-    condition(b", Change ", h.change);
+    tell_digits(
+        b", Read #, Write #, ReadWrite #, Change #",
+        &[
+            h.read as u64,
+            h.write as u64,
+            h.both as u64,
+            h.change as u64,
+        ],
+    );
 }
 
 // The conditions of SDM.
 fn sdm_rights(h: Head) {
-    say(b"\n          SDM on");
-    condition(b", MetaRead ", h.meta);
-    condition(b", FileRead ", h.file);
-    condition(b", CtrRet ", h.ret);
+    tell_digits(
+        b"\n          SDM on, MetaRead #, FileRead #, CtrRet #",
+        &[h.meta as u64, h.file as u64, h.ret as u64],
+    );
 }
 
-// Where mirrors stand.
-fn mirrors(r: Reading, h: Head, p: Places) {
-    mirror(b", UID at ", r.uid.present, r.uid.start);
-    mirror(b", counter at ", r.counter.present, r.counter.start);
-    mirror(b", PICCData at ", r.picc.present, r.picc.start);
+// Where mirrors of the UID and the counter stand.
+fn plain_mirrors(r: Reading, h: Head) {
+    mirror(b", UID at #", r.uid.present, r.uid.start);
+    mirror(b", counter at #", r.counter.present, r.counter.start);
+    mirror(b", PICCData at #", r.picc.present, r.picc.start);
     encrypted(r.picc.present, h.uid, h.counter);
-    mirror(b", ENC at ", r.enc.present, r.enc.start);
-    mirror(b", MAC input at ", r.mac.present, p.input);
-    mirror(b", MAC at ", r.mac.present, r.mac.start);
-    mirror(b", limit at ", h.limit, p.limit);
+}
+
+// Where the others stand, and the limit.
+fn keyed_mirrors(r: Reading, limit: bool, p: Places) {
+    mirror(b", ENC at #", r.enc.present, r.enc.start);
+    mirror(b", MAC input at #", r.mac.present, p.input);
+    mirror(b", MAC at #", r.mac.present, r.mac.start);
+    mirror(b", limit at #", limit, p.limit);
+}
+
+fn sdm(r: Reading, h: Head, p: Places) {
+    if h.sdm {
+        sdm_rights(h);
+        plain_mirrors(r, h);
+        keyed_mirrors(r, h.limit, p);
+    }
 }
 
 fn file(f: Files, n: u8) {
     let r = state::reading_of(f, n);
     let s = r.settings;
     let h = s.head;
-    let p = s.places;
-    tell(b"  file ", n as u64);
-    say(b": ");
+    tell(b"  file #: ", &[n as u64]);
     rights(h);
-    if h.sdm {
-        sdm_rights(h);
-        mirrors(r, h, p);
-    }
+    sdm(r, h, s.places);
     say(b"\n");
 }
 
@@ -128,15 +136,28 @@ fn uid(u: [u8; 7]) {
     say(b"\n");
 }
 
-pub fn print(t: Tag) {
-    let f = t.files;
-    let u = t.uid;
-    uid(u);
-    place(t.place);
-    session(t.live, t.pending);
-    tell(b"  tap counter: ", t.tap.counter as u64);
-    say(b"\n");
+fn place(p: Place) {
+    level(p.application);
+    selected(p.file);
+}
+
+// The session's key, a part two that is pending, and the tap counter.
+fn talk(l: Live, p: Pending, counter: u32) {
+    session(l.on, l.key, l.counter);
+    pending(p.on, p.key);
+    tell(b"\n  tap counter: #\n", &[counter as u64]);
+}
+
+fn files(f: Files) {
     file(f, 1);
     file(f, 2);
     file(f, 3);
+}
+
+pub fn print(t: Tag) {
+    let u = t.uid;
+    uid(u);
+    place(t.place);
+    talk(t.live, t.pending, t.tap.counter);
+    files(t.files);
 }

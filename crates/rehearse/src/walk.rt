@@ -1,30 +1,15 @@
 // The lines of a plan, each with the tag that the one before it left, and what they came to.
 ghost use mathlib.Core.Path.{_≡_};
 ghost use Prim.Native.Nat.{_+_, _≤_, _<_};
-ghost use lib.ListN.{length, take, drop};
-ghost use Rattle.rehearse.specs.Steps.{toldBy, played, stays, Draws, Carried, Stepped};
+ghost use lib.ListN.{length, drop};
+ghost use Rattle.turns.specs.Steps.{Carried, Stepped};
 ghost use Rattle.rehearse.specs.Counts.{moreBy, firstBy, countedBy, noTally, Below, Walked};
 use crate::show;
 use plans::Meaning;
 use plans::Reason;
 use state::Tag;
-
-// What a line did: a command was played, its reply refused; the line was skipped, since the machine gave no random bytes; it expected
-// something, and the reply was not that.
-pub struct Went {
-    pub played: bool,
-    pub refused: bool,
-    pub skipped: bool,
-    pub undrawn: bool,
-    pub expecting: bool,
-    pub unmet: bool,
-}
-
-// The tag behind a line.
-pub struct Turn {
-    pub tag: Tag,
-    pub went: Went,
-}
+use turns::Turn;
+use turns::Went;
 
 // How many lines did each of these; the first line whose reply was not as expected, 0 where none was.
 pub struct Tally {
@@ -43,74 +28,33 @@ pub struct Rehearsal {
     pub tally: Tally,
 }
 
-// Prints a command, the tag's reply and, where the reply is not as expected, what was.
-fn told(tag: Tag, number: u64, command: &[u8], reply: &[u8], expected: &[u8]) -> Turn
-    ensures { λ r. ⌜ r ≡ toldBy tag (now (reply .entry)) (now (expected .entry)) ⌝ }
-{
-    let refused = verdict::refuses(verdict::status_of(reply));
-    let unmet = verdict::differs(expected, reply);
-    let expecting = 0 < expected.len();
+// Prints a command, its reply and, where the reply is not as expected, what was.
+fn played(number: u64, command: &[u8], reply: &[u8], expected: &[u8], unmet: bool) {
     show::exchange(number, command, reply);
     if unmet {
         show::unlike(expected);
     }
-    let went = Went {
-        played: true,
-        refused,
-        skipped: false,
-        undrawn: false,
-        expecting,
-        unmet,
-    };
-    Turn { tag, went }
 }
 
-// Plays a command.
-fn exchange(tag: Tag, number: u64, command: &[u8], random: &[u8], expected: &[u8]) -> Turn
-    ensures { λ r. ⌜ r ≡ played tag (now (command .entry)) (now (random .entry)) (now (expected .entry)) ⌝ }
-{
-    let mut room = [0u8; 258];
-    let d = tag::call(tag, command, random, &mut room);
-    let n = d.length;
-    told(d.tag, number, command, &room[..n], expected)
-}
-
-// Plays the first n bytes of a command.
-fn front(tag: Tag, number: u64, n: usize, c: &[u8], x: &[u8], e: &[u8]) -> Turn
-    ensures { λ r. ⌜ r ≡ played tag (take n (now (c .entry))) (now (x .entry)) (now (e .entry)) ⌝ }
-{
+// The same of the first n bytes of a command.
+fn front(number: u64, n: usize, c: &[u8], reply: &[u8], e: &[u8], unmet: bool) {
     if n < c.len() {
-        return exchange(tag, number, &c[..n], x, e);
+        played(number, &c[..n], reply, e, unmet);
+    } else {
+        played(number, c, reply, e, unmet);
     }
-    exchange(tag, number, c, x, e)
 }
 
-// A line that does nothing: it is blank, or skipped, or skipped since the machine gave no random bytes.
-fn still(tag: Tag, skipped: bool, undrawn: bool) -> Turn
-    ensures { λ r. ⌜ r ≡ stays tag skipped undrawn ⌝ }
-{
-    let went = Went {
-        played: false,
-        refused: false,
-        skipped,
-        undrawn,
-        expecting: false,
-        unmet: false,
-    };
-    Turn { tag, went }
-}
-
-// The same with random bytes of the machine. Where it has none, the tag is left as it is.
-fn drawn(tag: Tag, number: u64, n: usize, c: &[u8], e: &[u8]) -> Turn
-    ensures { λ r. ⌜ Draws tag (take n (now (c .entry))) (now (e .entry)) r ⌝ }
-{
-    let mut random = [0u8; 20];
-    let got = libc::getentropy(&mut random);
-    if got == 0 {
-        return front(tag, number, n, c, &random, e);
+// Says what is wrong with a command's length, or behind '/' or '='.
+fn complain_of_parts(number: u64, r: Reason) {
+    match r {
+        Reason::TooLong => show::skipped(number, b"more than 512 bytes"),
+        Reason::BadRandom => show::skipped(number, b"behind '/' there must be 20 bytes, 40 digits"),
+        _ => show::skipped(
+            number,
+            b"behind '=' there must be 1 to 258 bytes, two digits each, and it comes last",
+        ),
     }
-    show::skipped(number, b"the machine gives no random bytes");
-    still(tag, true, true)
 }
 
 // Says why a line is skipped.
@@ -119,28 +63,58 @@ fn complain(number: u64, r: Reason) {
         Reason::NoCommand => show::skipped(number, b"no command before '/' or '='"),
         Reason::Stray => show::skipped(number, b"a character that is no hexadecimal digit"),
         Reason::OddDigits => show::skipped(number, b"an odd number of digits"),
-        Reason::TooLong => show::skipped(number, b"more than 512 bytes"),
-        Reason::BadRandom => show::skipped(number, b"behind '/' there must be 20 bytes, 40 digits"),
-        Reason::BadExpected => show::skipped(
-            number,
-            b"behind '=' there must be 1 to 258 bytes, two digits each, and it comes last",
-        ),
+        _ => complain_of_parts(number, r),
     }
 }
 
-// What a line asks for is done: the command is the first bytes of c, x are the random bytes that it brings, e is what it expects.
+// The same of a line without random bytes of its own.
+fn drawn(number: u64, n: usize, c: &[u8], reply: &[u8], e: &[u8], w: Went) {
+    if w.undrawn {
+        show::skipped(number, b"the machine gives no random bytes");
+    } else {
+        front(number, n, c, reply, e, w.unmet);
+    }
+}
+
+// Prints what a line did.
+fn shown(number: u64, m: Meaning, c: &[u8], reply: &[u8], e: &[u8], w: Went) {
+    match m {
+        Meaning::Blank => {}
+        Meaning::Bad(r) => complain(number, r),
+        Meaning::Drawn(n) => drawn(number, n, c, reply, e, w),
+        Meaning::Given(n) => front(number, n, c, reply, e, w.unmet),
+    }
+}
+
+// What a line asks for is done and printed, with random bytes of the machine.
+fn turned(tag: Tag, number: u64, m: Meaning, c: &[u8], x: &[u8], e: &[u8], d: &[u8]) -> Turn
+    ensures { λ r. ⌜ Carried m tag (now (c .entry)) (now (x .entry)) (now (e .entry)) r ⌝ }
+{
+    let a = turns::carry_out(tag, m, c, x, e, d);
+    let turn = a.turn;
+    let n = a.length;
+    let room = a.room;
+    shown(number, m, c, &room[..n], e, turn.went);
+    turn
+}
+
+// Whether a line takes random bytes of the machine, and it gives them.
+fn draws(m: Meaning, d: &mut [u8]) -> bool {
+    match m {
+        Meaning::Drawn(_) => libc::getentropy(d) == 0,
+        _ => false,
+    }
+}
+
+// The command of a line is the first bytes of c, x are the random bytes that it brings, e is what it expects.
 fn carried(tag: Tag, number: u64, m: Meaning, c: &[u8], x: &[u8], e: &[u8]) -> Turn
     ensures { λ r. ⌜ Carried m tag (now (c .entry)) (now (x .entry)) (now (e .entry)) r ⌝ }
 {
-    match m {
-        Meaning::Blank => still(tag, false, false),
-        Meaning::Bad(r) => {
-            complain(number, r);
-            still(tag, true, false)
-        }
-        Meaning::Drawn(n) => drawn(tag, number, n, c, e),
-        Meaning::Given(n) => front(tag, number, n, c, x, e),
+    let mut d = [0u8; 20];
+    if draws(m, &mut d) {
+        return turned(tag, number, m, c, x, e, &d);
     }
+    turned(tag, number, m, c, x, e, b"")
 }
 
 // A line: its command is carried out, or it is skipped and the tag stays as it is.

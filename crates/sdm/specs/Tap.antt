@@ -7,8 +7,8 @@ use lib.ListN.{length, take, replicate}
 use Rattle.base.specs.Decide.{pick}
 use Rattle.base.specs.Bytes.{low}
 use Rattle.aes.specs.Block.{cipher}
-use Rattle.aes.specs.Cbc.{cbcOut, whole}
-use Rattle.aes.specs.Cmac.{cmac}
+use Rattle.cbc.specs.Cbc.{cbcOut, whole}
+use Rattle.cmac.specs.Cmac.{cmac}
 use Rattle.key_expansion.specs.Keys.{keyExpansion}
 use Rattle.sdm.specs.declared.Tap.{Tap}
 use Rattle.sdm.specs.declared.TapKeys.{TapKeys}

@@ -6,7 +6,7 @@ ghost use lib.ListN.{take, replicate};
 ghost use Rattle.base.specs.Decide.{pick};
 ghost use Rattle.base.specs.Bytes.{low};
 ghost use Rattle.aes.specs.Block.{cipher};
-ghost use Rattle.aes.specs.Cmac.{mac};
+ghost use Rattle.cmac.specs.Cmac.{mac};
 ghost use Rattle.sdm.specs.Tap.{mirrored, Mirrors, piccTag, piccData, tapKeys, tapIv, Hides};
 use crate::Tap;
 use crate::TapKeys;
@@ -115,8 +115,8 @@ pub fn tap_keys(key: [u8; 16], t: Tap) -> TapKeys
     let b = m.bytes;
     let one = vector(0xC3, 0x3C, b);
     let two = vector(0x3C, 0xC3, b);
-    let enc = aes::cmac_of(&w, &one);
-    let mac = aes::cmac_of(&w, &two);
+    let enc = cmac::cmac_of(&w, &one);
+    let mac = cmac::cmac_of(&w, &two);
     TapKeys { enc, mac }
 }
 
@@ -144,7 +144,7 @@ pub fn tap_encrypt(key: [u8; 16], counter: u32, text: &mut [u8]) -> bool
     let w = key_expansion::expand(key);
     let iv = tap_vector(&w, counter);
     let whole = text.len() % 16 == 0;
-    aes::cbc_encrypt(&w, iv, text);
+    cbc::cbc_encrypt(&w, iv, text);
     whole
 }
 
@@ -153,5 +153,5 @@ pub fn tap_mac(key: [u8; 16], text: &[u8]) -> [u8; 8]
     ensures { λ r. ⌜ r ≡ mac key (now (text .entry)) ⌝ }
 {
     let w = key_expansion::expand(key);
-    aes::mac_of(&w, text)
+    cmac::mac_of(&w, text)
 }

@@ -7,8 +7,8 @@ use Rattle.base.specs.Decide.{pick}
 use Rattle.state.specs.declared.Place.{Place}
 use Rattle.state.specs.declared.Tag.{Tag}
 use Rattle.state.specs.State.{quieted, placed, tapped}
-use Rattle.answer.specs.declared.Done.{Done}
-use Rattle.answer.specs.Answer.{Answer, Gives, given, refusal}
+use Rattle.replies.specs.declared.Done.{Done}
+use Rattle.replies.specs.Answer.{Answer, Gives, given, refusal}
 use Rattle.selects.specs.Selects.{selectedFile}
 
 abbrev pub atFile : ℕ → Place

@@ -8,7 +8,7 @@ use Rattle.base.specs.Decide.{pick, or}
 use Rattle.base.specs.Bytes.{byteAt, same}
 use Rattle.state.specs.declared.Tag.{Tag}
 use Rattle.state.specs.State.{quieted, tapped, placed, endedOf}
-use Rattle.answer.specs.Answer.{Answer, given, refusal}
+use Rattle.replies.specs.Answer.{Answer, given, refusal}
 
 -- Selecting PICC or application ends session and file selection
 unfoldable pub moved : Tag → Bool → Answer

@@ -2,9 +2,9 @@
 ghost use mathlib.Core.Path.{_≡_};
 ghost use lib.Dec.{eqb};
 ghost use Rattle.base.specs.Decide.{or};
-ghost use Rattle.answer.specs.Answer.{Gives};
+ghost use Rattle.replies.specs.Answer.{Gives};
 ghost use Rattle.selects.specs.Selects.{moved, selectedFile, ofId, byId, byName, selected};
-use answer::Done;
+use replies::Done;
 use state::Place;
 use state::Tag;
 
@@ -18,7 +18,7 @@ fn move_to(tag: Tag, application: bool) -> Done
         file: 0,
     };
     t.place = p;
-    answer::give(t, 0x9000, [0; 258], 0)
+    replies::give(t, 0x9000, [0; 258], 0)
 }
 
 // A file needs the application, and keeps the session.
@@ -34,9 +34,9 @@ fn select_file(tag: Tag, n: u8) -> Done
         let q = state::quiet(t.tap);
         t.place = p;
         t.tap = q;
-        return answer::give(t, 0x9000, [0; 258], 0);
+        return replies::give(t, 0x9000, [0; 258], 0);
     }
-    answer::refuse(tag, 0x6A82)
+    replies::refuse(tag, 0x6A82)
 }
 
 // A byte as a wider number.
@@ -56,7 +56,7 @@ fn of_id(tag: Tag, id: u32) -> Done
         0xE103 => select_file(tag, 1),
         0xE104 => select_file(tag, 2),
         0xE105 => select_file(tag, 3),
-        _ => answer::refuse(tag, 0x6A82),
+        _ => replies::refuse(tag, 0x6A82),
     }
 }
 
@@ -70,7 +70,7 @@ fn select_id(tag: Tag, d: &[u8]) -> Done
     if d.len() == 2 {
         return of_id(tag, wide(base::at(d, 0)) * 256 + wide(base::at(d, 1)));
     }
-    answer::refuse(tag, 0x6A80)
+    replies::refuse(tag, 0x6A80)
 }
 
 // D2760000850100 or D2760000850101.
@@ -83,7 +83,7 @@ fn select_name(tag: Tag, d: &[u8]) -> Done
     if base::alike(d, &[0xD2, 0x76, 0x00, 0x00, 0x85, 0x01, 0x01]) {
         return move_to(tag, true);
     }
-    answer::refuse(tag, 0x6A82)
+    replies::refuse(tag, 0x6A82)
 }
 
 // P2 00 or 0C.
@@ -107,7 +107,7 @@ pub fn select(tag: Tag, p1: u8, p2: u8, d: &[u8]) -> Done
         if p1 == 4 {
             return select_name(tag, d);
         }
-        return answer::refuse(tag, 0x6A86);
+        return replies::refuse(tag, 0x6A86);
     }
-    answer::refuse(tag, 0x6A86)
+    replies::refuse(tag, 0x6A86)
 }

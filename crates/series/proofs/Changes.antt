@@ -1,7 +1,7 @@
 -- A status other than 9000, 9100 and 91AF has no data and only ends what runs; files, settings, keys and versions change only with an
 -- accepting reply.
 use mathlib.Core.Path.{_≡_, refl, sym, _∙_, ap}
-use mathlib.Core.Bool.{Bool, true, false, not}
+use mathlib.Core.Bool.{true, false}
 use mathlib.Core.List.{List, []}
 use Prim.Native.Nat.{ℕ}
 use lib.Dec.{eqb}
@@ -9,13 +9,16 @@ use lib.ListN.{length}
 use Rattle.base.specs.Decide.{and, or}
 use Rattle.messaging.specs.declared.Mode.{Mode}
 use Rattle.messaging.specs.declared.Mode.the-variants.{Plain, Mac, Full}
-use Rattle.messaging.specs.Reply.{overlong, closedLength, hiddenLength}
+use Rattle.closing.specs.declared.Closed.the-variants.{Over}
+use Rattle.closing.specs.Reply.{overlong, closedLength, hiddenLength, closedStatus}
+use Rattle.state.specs.declared.Pending.{Pending}
 use Rattle.state.specs.declared.Tag.{Tag}
-use Rattle.state.specs.State.{readingIn, endedOf, placed, talking, tapped}
-use Rattle.answer.specs.Answer.{Answer, refusal, accepted, afterwards}
-use Rattle.answer.specs.Taps.{shown}
-use Rattle.answer.specs.Filing.{storedIso, tapRead}
-use Rattle.auth.specs.Parts.{begun, enteredFirst, enteredNext, entered}
+use Rattle.state.specs.State.{readingIn, endedOf, talking}
+use Rattle.replies.specs.Answer.{Answer, given, refusal, accepted}
+use Rattle.file_parts.specs.Filing.{storedIso}
+use Rattle.taps.specs.Taps.{shown, tapRead}
+use Rattle.auth.specs.Parts.{begun}
+use Rattle.part_two.specs.PartTwo.{enteredFirst, enteredNext, entered}
 use Rattle.selects.specs.Selects.{moved, selectedFile}
 use Rattle.tag.specs.declared.Outcome.{Outcome}
 use Rattle.tag.specs.declared.Outcome.the-variants.{Replied, SmallRoom, WrongRandom, Unsound}
@@ -34,9 +37,6 @@ SameOr t a = accepting (a .status) ≡ false → Same t (a .tag)
 passes : (status : ℕ) → accepting status ≡ true → {A : Type 0} → passing status ≡ false → A
 unfolding passing
 passes status e {A} h = absurd (not-both (sym h ∙ ap (λ b. or b (eqb status 0x91AF)) e))
-
-fair : (status : ℕ) → accepting status ≡ true → {A : Type 0} → accepting status ≡ false → A
-fair status e {A} h = absurd (not-both (sym h ∙ e))
 
 yes-9000 : accepting 0x9000 ≡ true
 unfolding accepting
@@ -61,64 +61,48 @@ pub accepted-none : (t : Tag) (m : Mode) → accepting (accepted t m [] .status)
 unfolding accepted accepting
 accepted-none t m = rw (short-none m) refl
 
--- ---- a status that does not pass
-ended-kinds : (t : Tag) (c random : List ℕ) → Kinds t c random (EndedOr t)
-unfolding refusal begun entered enteredFirst enteredNext accepted tapRead storedIso moved selectedFile placed endedOf talking tapped
-ended-kinds t c random =
+-- ---- what holds of each answer that accepts, of each refusal and of part one holds of every answer
+by-status : (t : Tag) (c random : List ℕ) (P : Answer → Type 0) → ((a : Answer) → accepting (a .status) ≡ true → P a)
+    → ((s : ℕ) → P (refusal t s)) → ((p : Pending) → P (begun t p)) → Kinds t c random P
+unfolding entered enteredFirst enteredNext accepted tapRead storedIso moved selectedFile
+by-status t c random P on-accepting on-refusal on-begun =
     record {
-      refuses = λ s h. record { state = refl; empty = refl };
-      begins = λ p k a h. absurd (not-both (sym h ∙ yes-91AF));
-      enters =
-          λ p kx a. way (EndedOr t) (t .pending .first) (λ e. passes 0x9100 yes-9100) (λ e. passes 0x9100 yes-9100);
-      answers =
-          λ m d. way (EndedOr t) (overlong m (length d)) (λ e h. record { state = refl; empty = refl }) (λ e. passes 0x9100 yes-9100);
-      rekeys = λ s. passes (accepted _ Full [] .status) (accepted-none _ Full);
-      rekeys-first = λ s. passes 0x9100 yes-9100;
-      writes = λ n at p m. passes (accepted _ m [] .status) (accepted-none _ m);
-      writes-iso = λ n at p. passes 0x9000 yes-9000;
-      restrings = λ n p m s g. passes (accepted _ m [] .status) (accepted-none _ m);
+      refuses = on-refusal;
+      begins = λ p k a. on-begun p;
+      enters = λ p kx a. way P (t .pending .first) (λ e. fair _ 0x9100 _ yes-9100) (λ e. fair _ 0x9100 _ yes-9100);
+      answers = λ m d. way P (overlong m (length d)) (λ e. on-refusal (closedStatus Over)) (λ e. fair _ 0x9100 _ yes-9100);
+      rekeys = λ s. on-accepting (accepted _ Full []) (accepted-none _ Full);
+      rekeys-first = λ s. fair _ 0x9100 _ yes-9100;
+      writes = λ n at p m. on-accepting (accepted _ m []) (accepted-none _ m);
+      writes-iso = λ n at p. fair _ 0x9000 _ yes-9000;
+      restrings = λ n p m s g. on-accepting (accepted _ m []) (accepted-none _ m);
       taps =
           λ n iso status refusing at count e s l p f.
-          way (EndedOr t) (eqb (shown t (readingIn (t .files) n) iso random .status) 0) (λ z. passes status e) (λ z h. record { state = refl; empty = refl });
-      reads-iso = λ n at count. passes 0x9000 yes-9000;
-      moves = λ application. passes 0x9000 yes-9000;
-      selects = λ n h. way (EndedOr t) (t .place .application) (λ e. passes 0x9000 yes-9000) (λ e h. record { state = refl; empty = refl });
+          way P (eqb (shown t (readingIn (t .files) n) iso random .status) 0) (λ z. fair _ status _ e) (λ z. on-refusal refusing);
+      reads-iso = λ n at count. fair _ 0x9000 _ yes-9000;
+      moves = λ application. fair _ 0x9000 _ yes-9000;
+      selects = λ n h. way P (t .place .application) (λ e. fair _ 0x9000 _ yes-9000) (λ e. on-refusal 0x6A82);
     }
+  where
+    fair : (u : Tag) (status : ℕ) (text : List ℕ) → accepting status ≡ true → P (given u status text)
+    fair u status text e = on-accepting (given u status text) e
+
+-- ---- a status that does not pass
+ended-kinds : (t : Tag) (c random : List ℕ) → Kinds t c random (EndedOr t)
+unfolding refusal begun
+ended-kinds t c random =
+    by-status t c random (EndedOr t) (λ a e. passes (a .status) e) (λ s h. record { state = refl; empty = refl })
+    (λ p h. absurd (not-both (sym h ∙ yes-91AF)))
 
 pub otherwise-ended : (t : Tag) (c random : List ℕ) → passing (answered t c random .status) ≡ false → Ended t (answered t c random)
 otherwise-ended t c random = every-answer t c random (EndedOr t) (ended-kinds t c random)
 
 -- ---- a status that does not accept
-same-ended : (t : Tag) → Same t (endedOf t)
-unfolding endedOf talking
-same-ended t = record { files = refl; secrets = refl }
-
 same-kinds : (t : Tag) (c random : List ℕ) → Kinds t c random (SameOr t)
-unfolding refusal endedOf begun entered enteredFirst enteredNext talking accepted afterwards tapRead tapped storedIso moved selectedFile placed
+unfolding refusal endedOf begun talking
 same-kinds t c random =
-    record {
-      refuses = λ s h. record { files = refl; secrets = refl };
-      begins = λ p k a h. record { files = refl; secrets = refl };
-      enters =
-          λ p kx a.
-          way (SameOr t) (t .pending .first) (λ e h. record { files = refl; secrets = refl }) (λ e h. record { files = refl; secrets = refl });
-      answers =
-          λ m d.
-          way (SameOr t) (overlong m (length d)) (λ e h. record { files = refl; secrets = refl }) (λ e h. record { files = refl; secrets = refl });
-      rekeys = λ s. fair (accepted _ Full [] .status) (accepted-none _ Full);
-      rekeys-first = λ s. fair 0x9100 yes-9100;
-      writes = λ n at p m. fair (accepted _ m [] .status) (accepted-none _ m);
-      writes-iso = λ n at p. fair 0x9000 yes-9000;
-      restrings = λ n p m s g. fair (accepted _ m [] .status) (accepted-none _ m);
-      taps =
-          λ n iso status refusing at count e s l p f.
-          way (SameOr t) (eqb (shown t (readingIn (t .files) n) iso random .status) 0) (λ z. fair status e)
-          (λ z h. record { files = refl; secrets = refl });
-      reads-iso = λ n at count. fair 0x9000 yes-9000;
-      moves = λ application. fair 0x9000 yes-9000;
-      selects =
-          λ n h. way (SameOr t) (t .place .application) (λ e. fair 0x9000 yes-9000) (λ e h. record { files = refl; secrets = refl });
-    }
+    by-status t c random (SameOr t) (λ a e h. absurd (not-both (sym h ∙ e))) (λ s h. record { files = refl; secrets = refl })
+    (λ p h. record { files = refl; secrets = refl })
 
 pub changed-accepted : (t : Tag) (c random : List ℕ) → accepting (answered t c random .status) ≡ false → Same t (answered t c random .tag)
 changed-accepted t c random = every-answer t c random (SameOr t) (same-kinds t c random)

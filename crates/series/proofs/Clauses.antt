@@ -5,7 +5,7 @@ use Prim.Native.Nat.{ℕ, _-_}
 use lib.Dec.{eqb, leb}
 use Rattle.base.specs.Decide.{and, or}
 use Rattle.base.proofs.Bytes.{and-left, and-right}
-use Rattle.state.specs.Sound.{keysSound, aloneSound, levelSound}
+use Rattle.soundness.specs.Sound.{keysSound, aloneSound, levelSound}
 use Rattle.series.proofs.Choices.{not-both, both-true}
 
 -- ---- levels, over plain truth values
@@ -23,16 +23,27 @@ unfolding levelSound
 level-zero true = refl
 level-zero false = refl
 
+-- at PICC level: no session, no pending part, no file
+record Bare (l p : Bool) (file : ℕ) : Type 0 where
+  small : leb file 3 ≡ true
+  live : not l ≡ true
+  idle : not p ≡ true
+  zero : eqb file 0 ≡ true
+
+at-picc : (l p tap : Bool) (file : ℕ) → levelSound false l p tap file ≡ true → Bare l p file
+unfolding levelSound
+at-picc l p tap file e =
+    let f = and-right (leb file 3) _ e in
+    let g = and-right (not l) _ f in
+    let h = and-right (not p) _ g in
+    record { small = and-left (leb file 3) _ e; live = and-left (not l) _ f; idle = and-left (not p) _ g; zero = and-right (not tap) _ h }
+
 -- with no session, no pending part and no tap
 pub level-still : (application l p tap : Bool) (file : ℕ) → levelSound application l p tap file ≡ true
     → levelSound application false false false file ≡ true
 unfolding levelSound
 level-still true l p tap file e = both-true (and-left (leb file 3) _ e) refl
-level-still false l p tap file e =
-    let f = and-right (leb file 3) _ e in
-    let g = and-right (not l) _ f in
-    let h = and-right (not p) _ g in
-    both-true (and-left (leb file 3) _ e) (and-right (not tap) _ h)
+level-still false l p tap file e = let b = at-picc l p tap file e in both-true (b .small) (b .zero)
 
 -- with no tap
 pub level-quiet : (application l p tap : Bool) (file : ℕ) → levelSound application l p tap file ≡ true
@@ -40,10 +51,8 @@ pub level-quiet : (application l p tap : Bool) (file : ℕ) → levelSound appli
 unfolding levelSound
 level-quiet true l p tap file e = both-true (and-left (leb file 3) _ e) refl
 level-quiet false l p tap file e =
-    let f = and-right (leb file 3) _ e in
-    let g = and-right (not l) _ f in
-    let h = and-right (not p) _ g in
-    both-true (and-left (leb file 3) _ e) (both-true (and-left (not l) _ f) (both-true (and-left (not p) _ g) (and-right (not tap) _ h)))
+    let b = at-picc l p tap file e in
+    both-true (b .small) (both-true (b .live) (both-true (b .idle) (b .zero)))
 
 -- a session, a pending part or a selected file is in the application
 pub level-live : (application l p tap : Bool) (file : ℕ) → levelSound application l p tap file ≡ true → l ≡ true → application ≡ true

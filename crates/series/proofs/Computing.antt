@@ -2,28 +2,30 @@
 use mathlib.Core.Bool.{Bool, true}
 use Rattle.base.specs.Bytes.{same, laid, number, low}
 use Rattle.messaging.specs.Protect.{content, signed, sent, macRight}
-use Rattle.messaging.specs.Command.{partRight, lengthRight, checked, opening, openedStatus}
-use Rattle.messaging.specs.Reply.{closed, closedLength, overlong}
+use Rattle.opening.specs.Command.{partRight, lengthRight, checked, opening, openedStatus}
+use Rattle.closing.specs.Reply.{closed, closedLength, overlong}
 use Rattle.fields.specs.Fields.{sdmOn, sdmByte, modeOf, headOf, hasUid, hasCounter, hasPicc, hasMac, hasEnc, present}
 use Rattle.fields.specs.Fields.{three, fields, ends, placesOf, placesIn, sizeOf, readOf}
-use Rattle.fields.specs.Spans.{span, uidSpan, counterSpan, piccSpan, encSpan, macSpan, readingOf}
-use Rattle.settings.specs.Rules.{found, optionBits, sdmFile, condition, rights, restRules, rules}
+use Rattle.spans.specs.Spans.{span, uidSpan, counterSpan, piccSpan, encSpan, macSpan, readingOf}
+use Rattle.rules.specs.Rules.{found, optionBits, sdmFile, condition, rights, restRules, rules}
 use Rattle.fields.specs.Normal.{plainMode, freeBits, normal}
 use Rattle.settings.specs.Filing.{fileStatus}
 use Rattle.settings.specs.Answers.{verdictOf, judged, statusWord}
 use Rattle.state.specs.State.{startOf, sizeOf as fileSize, fileOf, slotOf, rulesOf, readingIn, noLive, noPending, quieted, endedOf, placed, talking, tapped, filed}
-use Rattle.state.specs.Fresh.{container, deliveredFiles, freshTag}
-use Rattle.state.specs.Access.{granted, readGrant, changeGrant, fileMode, accessFor, accessStatus, grantStatus}
-use Rattle.state.specs.Sound.{rulesSound, keysSound, aloneSound, levelSound, soundTag}
-use Rattle.answer.specs.Answer.{refusal, raised, sessionOf, afterwards, accepted}
-use Rattle.answer.specs.Filing.{stored, storedIso}
-use Rattle.details.specs.Details.{settingsReply, fileSettings, withRules, recounted, restrung, changedSettings}
+use Rattle.delivery.specs.Fresh.{container, deliveredFiles, freshTag}
+use Rattle.access.specs.Access.{granted, readGrant, changeGrant, fileMode, accessFor, accessStatus, grantStatus}
+use Rattle.soundness.specs.Sound.{rulesSound, keysSound, aloneSound, levelSound, soundTag}
+use Rattle.replies.specs.Answer.{refusal, raised, sessionOf, afterwards, accepted}
+use Rattle.file_parts.specs.Filing.{stored, storedIso}
+use Rattle.details.specs.Details.{settingsReply, fileSettings}
+use Rattle.change_settings.specs.ChangeSettings.{withRules, recounted, restrung, changedSettings}
 use Rattle.contents.specs.Contents.{readData}
 use Rattle.selects.specs.Selects.{moved, selectedFile, ofId, byId, byName, selected}
 use Rattle.binaries.specs.Binaries.{mayPass, mayUse, isoPart, readRange, readBinary}
-use Rattle.tag.specs.Wrapped.{oneOf, formRight, commandData, orderStatus, headerLength, hasData, byteStatus, frontStatus}
-use Rattle.tag.specs.Wrapped.{own, fromStep7, fromStep5, commanded, wrapped}
-use Rattle.tag.specs.InterIndustry.{isoForm, lcOf, hasLe, dataOf, fits, onFile, isoCommanded, interIndustry}
+use Rattle.base.specs.Decide.{oneOf}
+use Rattle.order.specs.Order.{formRight, commandData, orderStatus, headerLength, hasData, byteStatus, frontStatus}
+use Rattle.wrapped.specs.Wrapped.{own, fromStep7, fromStep5, commanded, wrapped}
+use Rattle.inter_industry.specs.InterIndustry.{isoForm, lcOf, hasLe, dataOf, fits, onFile, isoCommanded, interIndustry}
 use Rattle.tag.specs.Call.{answered, withStatus, replyOf}
 
 -- a settings string: read, judged, normalised

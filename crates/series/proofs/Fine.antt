@@ -9,26 +9,32 @@ use Rattle.base.specs.Decide.{and}
 use Rattle.base.specs.Bytes.{byteAt}
 use Rattle.base.proofs.Bytes.{and-left, and-right}
 use Rattle.messaging.specs.declared.Mode.{Mode}
-use Rattle.messaging.specs.declared.Closed.the-variants.{Over}
-use Rattle.messaging.specs.Reply.{overlong, closedStatus}
+use Rattle.closing.specs.declared.Closed.the-variants.{Over}
+use Rattle.closing.specs.Reply.{overlong, closedStatus}
+use Rattle.state.specs.declared.Files.{Files}
 use Rattle.state.specs.declared.Secrets.{Secrets}
 use Rattle.state.specs.declared.Tag.{Tag}
 use Rattle.state.specs.State.{rulesOf, readingIn, noLive, noPending, quieted, endedOf, filed, keyed, talking}
-use Rattle.state.specs.Sound.{rulesSound, keysSound, aloneSound, levelSound, soundTag}
-use Rattle.answer.specs.Answer.{Answer, refusal, accepted, afterwards, raised}
-use Rattle.answer.specs.Filing.{withBytes}
-use Rattle.series.specs.Series.{Slots}
+use Rattle.soundness.specs.Sound.{rulesSound, keysSound, aloneSound, levelSound, soundTag}
+use Rattle.replies.specs.Answer.{Answer, refusal, accepted, afterwards, raised}
+use Rattle.file_parts.specs.Filing.{withBytes}
+use Rattle.series.specs.Series.{Typed}
 use Rattle.series.proofs.Choices.{way, both-true}
 use Rattle.series.proofs.Clauses.{level-still, level-quiet, keys-none, alone-quiet}
 
--- all of soundness but the clause of taps, with the settings' places
+-- what soundness says of files, tap counter and UID, with the lengths of the settings' places
+pub record Lasting (files : Files) (counter : ℕ) (uid : List ℕ) : Type 0 where
+  pub rules : length (files .rules) ≡ 81
+  pub lens : length (files .lens) ≡ 3
+  pub one : rulesSound files 1 ≡ true
+  pub two : rulesSound files 2 ≡ true
+  pub three : rulesSound files 3 ≡ true
+  pub range : leb counter 16777215 ≡ true
+  pub first : eqb (byteAt uid 0) 4 ≡ true
+
+-- all of soundness but the clause of taps
 pub record Calm (t : Tag) : Type 0 where
-  pub slots : Slots t
-  pub one : rulesSound (t .files) 1 ≡ true
-  pub two : rulesSound (t .files) 2 ≡ true
-  pub three : rulesSound (t .files) 3 ≡ true
-  pub counter : leb (t .tap .counter) 16777215 ≡ true
-  pub uid : eqb (byteAt (t .uid) 0) 4 ≡ true
+  pub lasting : Lasting (t .files) (t .tap .counter) (t .uid)
   pub keys : keysSound (t .live .on) (t .live .key) (t .pending .on) (t .pending .key) ≡ true
   pub level : levelSound (t .place .application) (t .live .on) (t .pending .on) (t .tap .on) (t .place .file) ≡ true
 
@@ -36,7 +42,7 @@ pub record Fine (t : Tag) : Type 0 where
   pub calm : Calm t
   pub alone : aloneSound (t .tap .on) (t .live .on) (t .pending .on) (readingIn (t .files) 2 .settings .head .sdm) ≡ true
 
-pub sound-fine : (t : Tag) → Slots t → soundTag t ≡ true → Fine t
+pub sound-fine : (t : Tag) → Typed t → soundTag t ≡ true → Fine t
 unfolding soundTag
 sound-fine t s e =
     let b = and-right (rulesSound (t .files) 1) _ e in
@@ -49,12 +55,16 @@ sound-fine t s e =
     record {
       calm =
           record {
-            slots = s;
-            one = and-left _ _ e;
-            two = and-left _ _ b;
-            three = and-left _ _ c;
-            counter = and-left _ _ d;
-            uid = and-left _ _ f;
+            lasting =
+                record {
+                  rules = s .rules;
+                  lens = s .lens;
+                  one = and-left _ _ e;
+                  two = and-left _ _ b;
+                  three = and-left _ _ c;
+                  range = and-left _ _ d;
+                  first = and-left _ _ f;
+                };
             keys = and-left _ _ g;
             level = and-right (aloneSound (t .tap .on) (t .live .on) (t .pending .on) sdm) _ h;
           };
@@ -65,9 +75,10 @@ pub fine-sound : (t : Tag) → Fine t → soundTag t ≡ true
 unfolding soundTag
 fine-sound t h =
     let c = h .calm in
-    both-true (c .one)
-    (both-true (c .two)
-    (both-true (c .three) (both-true (c .counter) (both-true (c .uid) (both-true (c .keys) (both-true (h .alone) (c .level)))))))
+    let l = c .lasting in
+    both-true (l .one)
+    (both-true (l .two)
+    (both-true (l .three) (both-true (l .range) (both-true (l .first) (both-true (c .keys) (both-true (h .alone) (c .level)))))))
 
 -- ---- what ends, and what goes on
 pub fine-ended : (t : Tag) → Calm t → Fine (endedOf t)
@@ -76,12 +87,7 @@ fine-ended t c =
     record {
       calm =
           record {
-            slots = record { rules = c .slots .rules; lens = c .slots .lens };
-            one = c .one;
-            two = c .two;
-            three = c .three;
-            counter = c .counter;
-            uid = c .uid;
+            lasting = c .lasting;
             keys = keys-none;
             level = level-still (t .place .application) (t .live .on) (t .pending .on) (t .tap .on) (t .place .file) (c .level);
           };
@@ -94,12 +100,7 @@ fine-after t c =
     record {
       calm =
           record {
-            slots = record { rules = c .slots .rules; lens = c .slots .lens };
-            one = c .one;
-            two = c .two;
-            three = c .three;
-            counter = c .counter;
-            uid = c .uid;
+            lasting = c .lasting;
             keys = c .keys;
             level = level-quiet (t .place .application) (t .live .on) (t .pending .on) (t .tap .on) (t .place .file) (c .level);
           };
@@ -120,28 +121,15 @@ fine-accepted t c m d = way FineAfter (overlong m (length d)) (λ e. fine-refuse
 -- ---- other keys, other bytes
 pub calm-keyed : (t : Tag) → Calm t → (s : Secrets) → Calm (keyed t s)
 unfolding keyed
-calm-keyed t c s =
-    record {
-      slots = record { rules = c .slots .rules; lens = c .slots .lens };
-      one = c .one;
-      two = c .two;
-      three = c .three;
-      counter = c .counter;
-      uid = c .uid;
-      keys = c .keys;
-      level = c .level;
-    }
+calm-keyed t c s = record { lasting = c .lasting; keys = c .keys; level = c .level }
 
 pub calm-filed : (t : Tag) → Calm t → (n at : ℕ) (p : List ℕ) → Calm (filed t (withBytes (t .files) n at p))
 unfolding filed withBytes rulesSound rulesOf
 calm-filed t c n at p =
+    let l = c .lasting in
     record {
-      slots = record { rules = c .slots .rules; lens = c .slots .lens };
-      one = c .one;
-      two = c .two;
-      three = c .three;
-      counter = c .counter;
-      uid = c .uid;
+      lasting =
+          record { rules = l .rules; lens = l .lens; one = l .one; two = l .two; three = l .three; range = l .range; first = l .first };
       keys = c .keys;
       level = c .level;
     }

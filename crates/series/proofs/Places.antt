@@ -15,7 +15,7 @@ use Rattle.base.specs.Bytes.{byteAt, laid}
 use Rattle.base.proofs.Bytes.{le-or-lt, laid-not, laid-length}
 use Rattle.state.specs.declared.Files.{Files}
 use Rattle.state.specs.State.{slotOf, rulesOf}
-use Rattle.details.specs.Details.{withRules}
+use Rattle.change_settings.specs.ChangeSettings.{withRules}
 
 -- a part of a list, cut out in one order or the other
 part-cut : (a n : ℕ) (x : List ℕ) → a ≤ length x → take n (drop a x) ≡ drop a (take (a + n) x)
@@ -123,3 +123,27 @@ slot-file n h = by (eqb n 1) (eqb n 2) (eqb n 3) refl refl refl h
 
 pub same-slot : (n k : ℕ) → slotOf n ≡ slotOf k → slotOf k ≤ 2 → n ≡ k
 same-slot n k e h = slot-file n (omega arith) ∙ ap (λ i. i + 1) e ∙ sym (slot-file k h)
+
+-- ---- files 1 to 3
+pub slot-1 : slotOf 1 ≤ 2
+unfolding slotOf
+slot-1 = omega arith
+
+pub slot-2 : slotOf 2 ≤ 2
+unfolding slotOf
+slot-2 = omega arith
+
+pub slot-3 : slotOf 3 ≤ 2
+unfolding slotOf
+slot-3 = omega arith
+
+-- what holds of files 1, 2 and 3 holds of every file there is
+pub each-file : (P : ℕ → Type 0) → P 1 → P 2 → P 3 → (n : ℕ) → 1 ≤ n → n ≤ 3 → P n
+each-file P one two three n a b =
+    ⊎-elim (λ p. let e : n ≡ 1 = omega arith in subst P (sym e) one)
+    (λ p.
+    ⊎-elim (λ q. let e : n ≡ 2 = omega arith in subst P (sym e) two) (λ q. let e : n ≡ 3 = omega arith in subst P (sym e) three) (le-or-lt n 2))
+    (le-or-lt n 1)
+
+pub small : (n : ℕ) → 1 ≤ n → n ≤ 3 → slotOf n ≤ 2
+small = each-file (λ k. slotOf k ≤ 2) slot-1 slot-2 slot-3

@@ -12,14 +12,14 @@ use Rattle.base.specs.Decide.{pick, and, or}
 use Rattle.base.specs.Bytes.{byteAt}
 use Rattle.base.proofs.Bytes.{and-left, and-right, laid-length, same-refl}
 use Rattle.messaging.specs.declared.Mode.{Mode}
-use Rattle.fields.specs.declared.Reading.{Reading}
+use Rattle.spans.specs.declared.Reading.{Reading}
 use Rattle.settings.specs.declared.Verdict.{Verdict}
 use Rattle.settings.specs.declared.Verdict.the-variants.{Good, Refused, WrongFile}
 use Rattle.settings.specs.Answers.{judged}
 use Rattle.fields.specs.Normal.{normal}
 use Rattle.fields.specs.Fields.{readOf, headOf, sdmOn}
-use Rattle.fields.specs.Spans.{readingOf}
-use Rattle.settings.specs.Rules.{sdmFile}
+use Rattle.spans.specs.Spans.{readingOf}
+use Rattle.rules.specs.Rules.{sdmFile}
 use Rattle.meanings.proofs.Kept.{front-kept}
 use Rattle.meanings.proofs.NormalForm.{normal-length, normal-twice, normal-good}
 use Rattle.meanings.proofs.Mirrors.{good-length}
@@ -27,14 +27,12 @@ use Rattle.state.specs.declared.Files.{Files}
 use Rattle.state.specs.declared.Tag.{Tag}
 use Rattle.mirror.specs.Mirrors.{laidOf}
 use Rattle.state.specs.State.{fileOf, slotOf, rulesOf, readingIn, filed, tapped}
-use Rattle.state.specs.Sound.{good, rulesSound}
-use Rattle.answer.specs.declared.Shown.{Shown}
-use Rattle.answer.specs.Taps.{goesOn, startStatus, counted, mirrorFor, shown}
-use Rattle.answer.specs.Filing.{tapRead}
-use Rattle.details.specs.Details.{withRules, recounted, restrung, byVerdict}
-use Rattle.series.specs.Series.{Slots}
+use Rattle.soundness.specs.Sound.{good, rulesSound}
+use Rattle.taps.specs.declared.Shown.{Shown}
+use Rattle.taps.specs.Taps.{goesOn, startStatus, counted, mirrorFor, shown, tapRead}
+use Rattle.change_settings.specs.ChangeSettings.{withRules, recounted, restrung, byVerdict}
 use Rattle.series.proofs.Choices.{not-both, way}
-use Rattle.series.proofs.Places.{length-other, length-same, slot-other, slot-same, same-slot}
+use Rattle.series.proofs.Places.{length-other, length-same, slot-other, slot-same, same-slot, slot-1, slot-2, slot-3}
 use Rattle.series.proofs.Clauses.{level-file, level-on, level-selected, alone-tap}
 use Rattle.series.proofs.Fine.{Calm, Fine, FineAfter, fine-refused, fine-accepted}
 
@@ -85,26 +83,13 @@ module _ (f : Files) (r : length (f .rules) ≡ 81) (l : length (f .lens) ≡ 3)
           let o : slotOf n ≡ slotOf k → ⊥ = λ s. not-both (sym q ∙ eq-eqb (slotOf n) (slotOf k) s) in
           rw (length-other n k f (padOut p) (length p) o, slot-other n k f (padOut p) (length p) whole o) e
 
-slots-restrung : (f : Files) (n : ℕ) (text : List ℕ) (len : ℕ) → length (f .rules) ≡ 81 → length (f .lens) ≡ 3 → (t : Tag)
-    → t .files ≡ withRules f n text len → Slots t
+rules-stay : (f : Files) (n : ℕ) (text : List ℕ) (len : ℕ) → length (withRules f n text len .rules) ≡ length (f .rules)
 unfolding withRules
-slots-restrung f n text len r l t e =
-    record {
-      rules = ap (λ x. length (x .rules)) e ∙ laid-length text (slotOf n * 27) (f .rules) ∙ r;
-      lens = ap (λ x. length (x .lens)) e ∙ laid-length (len ∷ []) (slotOf n) (f .lens) ∙ l;
-    }
+rules-stay f n text len = laid-length text (slotOf n * 27) (f .rules)
 
-slot-1 : slotOf 1 ≤ 2
-unfolding slotOf
-slot-1 = omega arith
-
-slot-2 : slotOf 2 ≤ 2
-unfolding slotOf
-slot-2 = omega arith
-
-slot-3 : slotOf 3 ≤ 2
-unfolding slotOf
-slot-3 = omega arith
+lens-stay : (f : Files) (n : ℕ) (text : List ℕ) (len : ℕ) → length (withRules f n text len .lens) ≡ length (f .lens)
+unfolding withRules
+lens-stay f n text len = laid-length (len ∷ []) (slotOf n) (f .lens)
 
 -- Turning SDM on from off sets the tap counter to 0; else it stays
 counter-restrung : (b : Bool) (counter : ℕ) → leb counter 16777215 ≡ true → leb (pick b 0 counter) 16777215 ≡ true
@@ -116,16 +101,21 @@ pub calm-restrung : (t : Tag) → Calm t → (n : ℕ) (p : List ℕ) → judged
 unfolding restrung recounted tapped filed
 calm-restrung t c n p g =
     let f = withRules (t .files) n (padOut p) (length p) in
+    let l = c .lasting in
     let stays : (k : ℕ) → slotOf k ≤ 2 → rulesSound (t .files) k ≡ true → rulesSound f k ≡ true =
-    changed-sound (t .files) (c .slots .rules) (c .slots .lens) n p g in
+    changed-sound (t .files) (l .rules) (l .lens) n p g in
     record {
-      slots = slots-restrung (t .files) n (padOut p) (length p) (c .slots .rules) (c .slots .lens) (restrung t f n) refl;
-      one = stays 1 slot-1 (c .one);
-      two = stays 2 slot-2 (c .two);
-      three = stays 3 slot-3 (c .three);
-      counter =
-          counter-restrung (and (readingIn f n .settings .head .sdm) (not (readingIn (t .files) n .settings .head .sdm))) (t .tap .counter) (c .counter);
-      uid = c .uid;
+      lasting =
+          record {
+            rules = rules-stay (t .files) n (padOut p) (length p) ∙ l .rules;
+            lens = lens-stay (t .files) n (padOut p) (length p) ∙ l .lens;
+            one = stays 1 slot-1 (l .one);
+            two = stays 2 slot-2 (l .two);
+            three = stays 3 slot-3 (l .three);
+            range =
+                counter-restrung (and (readingIn f n .settings .head .sdm) (not (readingIn (t .files) n .settings .head .sdm))) (t .tap .counter) (l .range);
+            first = l .first;
+          };
       keys = c .keys;
       level = c .level;
     }
@@ -160,11 +150,11 @@ unfolding readingIn slotOf
 tapped-file t c n e = by (eqb n 1) (eqb n 2) (eqb n 3) refl refl refl
   where
     by : (a b d : Bool) → eqb n 1 ≡ a → eqb n 2 ≡ b → eqb n 3 ≡ d → n ≡ 2
-    by true b d p q r = sdm-file n (rulesOf (t .files) n) (subst (λ k. judged k (rulesOf (t .files) k) ≡ Good) (sym (eqb-true n 1 p)) (rules-good (t .files) 1 (c .one))) e
+    by true b d p q r = sdm-file n (rulesOf (t .files) n) (subst (λ k. judged k (rulesOf (t .files) k) ≡ Good) (sym (eqb-true n 1 p)) (rules-good (t .files) 1 (c .lasting .one))) e
     by false true d p q r = eqb-true n 2 q
-    by false false true p q r = sdm-file n (rulesOf (t .files) n) (subst (λ k. judged k (rulesOf (t .files) k) ≡ Good) (sym (eqb-true n 3 r)) (rules-good (t .files) 3 (c .three))) e
+    by false false true p q r = sdm-file n (rulesOf (t .files) n) (subst (λ k. judged k (rulesOf (t .files) k) ≡ Good) (sym (eqb-true n 3 r)) (rules-good (t .files) 3 (c .lasting .three))) e
     by false false false p q r =
-        absurd (not-both (sym (ap (λ s. readingOf (readOf s) .settings .head .sdm) (no-string (t .files) n (c .slots .lens) (rw (p, q, r) refl)) ∙ empty-off) ∙ e))
+        absurd (not-both (sym (ap (λ s. readingOf (readOf s) .settings .head .sdm) (no-string (t .files) n (c .lasting .lens) (rw (p, q, r) refl)) ∙ empty-off) ∙ e))
 
 -- a tap that shows has a counter in range
 abbrev InRange : Shown → Type 0
@@ -194,18 +184,23 @@ pub fine-tapped : (t : Tag) → Fine t → (n : ℕ) (iso : Bool) (random : List
 unfolding tapRead tapped
 fine-tapped t h n iso random accepting refusing at count sdm off free placed =
     let c = h .calm in
+    let l = c .lasting in
     let s = shown t (readingIn (t .files) n) iso random in
     way FineAfter (eqb (s .status) 0)
     (λ e.
     record {
       calm =
           record {
-            slots = record { rules = c .slots .rules; lens = c .slots .lens };
-            one = c .one;
-            two = c .two;
-            three = c .three;
-            counter = shown-range t (c .counter) (readingIn (t .files) n) iso random e;
-            uid = c .uid;
+            lasting =
+                record {
+                  rules = l .rules;
+                  lens = l .lens;
+                  one = l .one;
+                  two = l .two;
+                  three = l .three;
+                  range = shown-range t (l .range) (readingIn (t .files) n) iso random e;
+                  first = l .first;
+                };
             keys = c .keys;
             level =
                 level-on (t .place .application) (t .live .on) (t .pending .on) (s .tap .on) (t .place .file)

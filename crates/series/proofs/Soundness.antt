@@ -11,15 +11,16 @@ use Rattle.state.specs.declared.Live.{Live}
 use Rattle.state.specs.declared.Pending.{Pending}
 use Rattle.state.specs.declared.Tag.{Tag}
 use Rattle.state.specs.State.{readingIn, noLive, noPending, quieted, endedOf, filed, keyed, placed, talking, tapped}
-use Rattle.state.specs.Sound.{keysSound, soundTag}
-use Rattle.answer.specs.Answer.{Answer}
-use Rattle.answer.specs.Filing.{storedIso, withBytes}
-use Rattle.auth.specs.Parts.{begun, sessionFrom, enteredFirst, enteredNext, entered}
+use Rattle.soundness.specs.Sound.{keysSound, soundTag}
+use Rattle.replies.specs.Answer.{Answer}
+use Rattle.file_parts.specs.Filing.{storedIso, withBytes}
+use Rattle.auth.specs.Parts.{begun}
+use Rattle.part_two.specs.PartTwo.{sessionFrom, enteredFirst, enteredNext, entered}
 use Rattle.selects.specs.Selects.{moved, selectedFile}
 use Rattle.tag.specs.Call.{answered, outcomeOf, replied, unanswered, byOutcome}
 use Rattle.tag.specs.declared.Outcome.{Outcome}
 use Rattle.tag.specs.declared.Outcome.the-variants.{Replied, SmallRoom, WrongRandom, Unsound}
-use Rattle.series.specs.Series.{Asked, step, after, Slots}
+use Rattle.series.specs.Series.{Asked, step, after, Typed}
 use Rattle.series.proofs.Choices.{way}
 use Rattle.series.proofs.Walk.{Kinds, every-answer}
 use Rattle.series.proofs.Clauses.{level-file, level-on, level-zero, level-pending, level-either, keys-pending, keys-begun, keys-entered, keys-none, alone-quiet}
@@ -34,12 +35,7 @@ fine-talking t c l p k a =
     record {
       calm =
           record {
-            slots = record { rules = c .slots .rules; lens = c .slots .lens };
-            one = c .one;
-            two = c .two;
-            three = c .three;
-            counter = c .counter;
-            uid = c .uid;
+            lasting = c .lasting;
             keys = k;
             level =
                 level-on (t .place .application) (l .on) (p .on) false (t .place .file) a
@@ -69,12 +65,7 @@ fine-moved t c application =
     record {
       calm =
           record {
-            slots = record { rules = c .slots .rules; lens = c .slots .lens };
-            one = c .one;
-            two = c .two;
-            three = c .three;
-            counter = c .counter;
-            uid = c .uid;
+            lasting = c .lasting;
             keys = keys-none;
             level = level-zero application;
           };
@@ -89,12 +80,7 @@ fine-selected t c n h =
     record {
       calm =
           record {
-            slots = record { rules = c .slots .rules; lens = c .slots .lens };
-            one = c .one;
-            two = c .two;
-            three = c .three;
-            counter = c .counter;
-            uid = c .uid;
+            lasting = c .lasting;
             keys = c .keys;
             level = level-on true (t .live .on) (t .pending .on) false n refl (le-leb n 3 h);
           };
@@ -145,8 +131,8 @@ fine-series t h [] = h
 fine-series t h (a ∷ more) = fine-series (step t a) (fine-step t h a) more
 
 -- a sound state stays sound, whatever is asked, once and in any series
-pub sound-call : (t : Tag) → Slots t → soundTag t ≡ true → (a : Asked) → soundTag (step t a) ≡ true
+pub sound-call : (t : Tag) → Typed t → soundTag t ≡ true → (a : Asked) → soundTag (step t a) ≡ true
 sound-call t s e a = fine-sound (step t a) (fine-step t (sound-fine t s e) a)
 
-pub sound-series : (t : Tag) → Slots t → soundTag t ≡ true → (asked : List Asked) → soundTag (after t asked) ≡ true
+pub sound-series : (t : Tag) → Typed t → soundTag t ≡ true → (asked : List Asked) → soundTag (after t asked) ≡ true
 sound-series t s e asked = fine-sound (after t asked) (fine-series t (sound-fine t s e) asked)

@@ -7,42 +7,44 @@ use native.Mathlib.Omega.{arith}
 use lib.Dec.{eqb, leb, ltb}
 use lib.ListN.{length, take}
 use borrow.Author.Tests.{eqb-true, ltb-false}
-use Rattle.base.specs.Decide.{pick, and, or}
+use Rattle.base.specs.Decide.{pick, and, or, oneOf}
 use Rattle.base.specs.Bytes.{byteAt, same}
 use Rattle.base.proofs.Bytes.{and-left, and-right}
 use Rattle.messaging.specs.declared.Mode.{Mode}
 use Rattle.messaging.specs.declared.Mode.the-variants.{Full}
 use Rattle.authentication.specs.declared.Proof.{Proof}
 use Rattle.authentication.specs.declared.Proof.the-variants.{Right, NotThirtyTwo, WrongRndB}
-use Rattle.messaging.specs.declared.Opened.the-variants.{WrongLength, WrongMac, WrongPadding}
+use Rattle.opening.specs.declared.Opened.the-variants.{WrongLength, WrongMac, WrongPadding}
 use Rattle.authentication.specs.Authentication.{proofOf, proofStatus, deciphered}
 use Rattle.messaging.specs.Protect.{Opening, plain, wrongLength, wrongMac, wrongPadding}
-use Rattle.messaging.specs.Command.{openedStatus}
+use Rattle.opening.specs.Command.{openedStatus}
 use Rattle.settings.specs.declared.Verdict.{Verdict}
 use Rattle.settings.specs.declared.Verdict.the-variants.{Good, Refused, WrongFile}
 use Rattle.settings.specs.Answers.{judged, statusWord}
 use Rattle.fields.specs.declared.Head.{Head}
-use Rattle.state.specs.declared.Access.{Access}
-use Rattle.state.specs.declared.Access.the-variants.{In, Never, Denied}
+use Rattle.access.specs.declared.Access.{Access}
+use Rattle.access.specs.declared.Access.the-variants.{In, Never, Denied}
 use Rattle.state.specs.declared.Pending.{Pending}
 use Rattle.state.specs.declared.Secrets.{Secrets}
 use Rattle.state.specs.declared.Tag.{Tag}
 use Rattle.state.specs.State.{sizeOf, readingIn, keyIn, endedOf, filed, keyed}
-use Rattle.state.specs.Access.{accessFor, accessStatus}
-use Rattle.answer.specs.Answer.{Answer, given, refusal, accepted, afterwards}
-use Rattle.answer.specs.Taps.{shown}
-use Rattle.answer.specs.Filing.{stored, storedIso, tapRead, withBytes}
-use Rattle.auth.specs.Parts.{keyStatus, valuesStatus, firstStatus, nextStatus, pendingFirst, pendingNext, begun, entered, byProof, partOneFirst, partOneNext, partTwoAnswer}
+use Rattle.access.specs.Access.{accessFor, accessStatus}
+use Rattle.replies.specs.Answer.{Answer, given, refusal, accepted, afterwards}
+use Rattle.file_parts.specs.Filing.{stored, storedIso, withBytes}
+use Rattle.taps.specs.Taps.{shown, tapRead}
+use Rattle.order.specs.Order.{keyStatus, formRight, commandData, wrappedCommands, orderStatus, headerLength, byteStatus, frontStatus}
+use Rattle.auth.specs.Parts.{valuesStatus, firstStatus, nextStatus, pendingFirst, pendingNext, begun, partOneFirst, partOneNext}
+use Rattle.part_two.specs.PartTwo.{entered, byProof, partTwoAnswer}
 use Rattle.keyring.specs.Keyring.{newKey, changeStatus, withKey, changedKey, keyVersion}
-use Rattle.details.specs.Details.{cardUid, fileSettings, changedSettings, byVerdict, fileCounters}
+use Rattle.details.specs.Details.{cardUid, fileSettings, fileCounters}
+use Rattle.change_settings.specs.ChangeSettings.{changedSettings, byVerdict}
 use Rattle.settings.specs.Filing.{fileFaultWord}
 use Rattle.fields.specs.Fields.{three}
 use Rattle.contents.specs.Contents.{rangeStatus, asked, wrappedPart, readData, writeStatus, writtenData}
 use Rattle.selects.specs.Selects.{moved, selectedFile, ofId, byId, byName, selected, piccName, applicationName}
 use Rattle.binaries.specs.Binaries.{mayUse, tapStatus, isoPart, readRange, readBinary, updateRange, updatedBinary}
-use Rattle.tag.specs.Wrapped.{oneOf, formRight, commandData, wrappedCommands, orderStatus, headerLength, byteStatus, frontStatus, own}
-use Rattle.tag.specs.Wrapped.{openingOf, onOpening, fromStep7, onAccess, fromStep5, commanded, wrapped}
-use Rattle.tag.specs.InterIndustry.{isoForm, fits, dataOf, onFile, isoCommands, isoCommanded, interIndustry}
+use Rattle.wrapped.specs.Wrapped.{own, openingOf, onOpening, fromStep7, onAccess, fromStep5, commanded, wrapped}
+use Rattle.inter_industry.specs.InterIndustry.{isoForm, fits, dataOf, onFile, isoCommands, isoCommanded, interIndustry}
 use Rattle.tag.specs.Call.{answered}
 use Rattle.series.specs.Series.{accepting}
 use Rattle.series.proofs.Choices.{not-both, way, or-left, or-right, not-true, not-false}
@@ -265,9 +267,9 @@ module _ (t : Tag) (c random : List ℕ) (P : Answer → Type 0) (k : Kinds t c 
   access-kind class off p Never e = k .refuses (accessStatus Never)
   access-kind class off p Denied e = k .refuses (accessStatus Denied)
 
-  talk-kind : byteAt c 0 ≡ 0x90 → t .pending .on ≡ false → P (fromStep5 t ins part random)
+  step5-kind : byteAt c 0 ≡ 0x90 → t .pending .on ≡ false → P (fromStep5 t ins part random)
   unfolding fromStep5 head
-  talk-kind class off =
+  step5-kind class off =
       let s = frontStatus ins part (t .place .application) in
       way P (eqb s 0)
       (λ e. access-kind class off (front-right ins part (t .place .application) e) (accessFor ins (t .live) head) refl)
@@ -278,7 +280,7 @@ module _ (t : Tag) (c random : List ℕ) (P : Answer → Type 0) (k : Kinds t c 
   commanded-kind class p =
       way P (eqb ins 0x71) (λ e. first-kind part)
       (λ e. way P (eqb ins 0x77) (λ e. next-kind part)
-      (λ e. way P (eqb ins 0xAF) (λ e. second-kind part (p ∙ e)) (λ e. talk-kind class (p ∙ e))))
+      (λ e. way P (eqb ins 0xAF) (λ e. second-kind part (p ∙ e)) (λ e. step5-kind class (p ∙ e))))
 
   wrapped-kind : byteAt c 0 ≡ 0x90 → P (wrapped t c random)
   unfolding wrapped ins part

@@ -6,9 +6,10 @@ use Prim.Native.Nat.{ℕ}
 use lib.Dec.{eqb}
 use lib.ListN.{length}
 use Rattle.base.specs.Decide.{and, or}
+use Rattle.aes.specs.Block.{IsBlock}
 use Rattle.state.specs.declared.Tag.{Tag}
 use Rattle.state.specs.State.{endedOf}
-use Rattle.answer.specs.Answer.{Answer}
+use Rattle.replies.specs.Answer.{Answer}
 use Rattle.tag.specs.declared.Outcome.{Outcome}
 use Rattle.tag.specs.declared.Outcome.the-variants.{Replied, SmallRoom, WrongRandom, Unsound}
 use Rattle.tag.specs.Call.{answered, outcomeOf, byOutcome}
@@ -58,7 +59,9 @@ pub record Same (t u : Tag) : Type 0 where
   pub secrets : u .secrets ≡ t .secrets
 
 -- ---- every value of the type
--- the arrays of the settings strings have their lengths, as in every value of the type
-pub record Slots (t : Tag) : Type 0 where
+-- the arrays of the settings strings have their lengths, and the session's ENC key is 16 bytes. Every value of the type meets this; theorems, whose tags are
+-- records of lists, take it as one premise
+pub record Typed (t : Tag) : Type 0 where
   pub rules : length (t .files .rules) ≡ 81
   pub lens : length (t .files .lens) ≡ 3
+  pub enc : IsBlock (t .live .enc)

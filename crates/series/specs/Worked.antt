@@ -8,7 +8,7 @@ use Rattle.fields.specs.Normal.{normal}
 use Rattle.settings.specs.Answers.{judged}
 use Rattle.meanings.specs.Worked.{example}
 use Rattle.state.specs.declared.Tag.{Tag}
-use Rattle.state.specs.Fresh.{freshTag}
+use Rattle.delivery.specs.Fresh.{freshTag}
 use Rattle.tag.specs.Call.{answered, replyOf}
 
 -- 00A4040007D276000085010100

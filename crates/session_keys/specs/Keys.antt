@@ -5,7 +5,7 @@ use lib.Bits.{bitXor}
 use lib.ListN.{take, drop}
 use Rattle.base.specs.Bytes.{byteAt, tab}
 use Rattle.key_expansion.specs.Keys.{keyExpansion}
-use Rattle.aes.specs.Cmac.{cmac}
+use Rattle.cmac.specs.Cmac.{cmac}
 use Rattle.session_keys.specs.declared.Keys.{Keys}
 
 -- bytes hi down to lo of 16; byte 15 is the first sent

@@ -37,7 +37,7 @@ pub fn session_keys(kx: [u8; 16], a: [u8; 16], b: [u8; 16]) -> Keys
     let w = key_expansion::expand(kx);
     let one = vector(0xA5, 0x5A, a, b);
     let two = vector(0x5A, 0xA5, a, b);
-    let enc = aes::cmac_of(&w, &one);
-    let mac = aes::cmac_of(&w, &two);
+    let enc = cmac::cmac_of(&w, &one);
+    let mac = cmac::cmac_of(&w, &two);
     Keys { enc, mac }
 }

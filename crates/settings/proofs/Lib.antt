@@ -1,3 +1,1 @@
 pub mod Filing
-pub mod Fitting
-pub mod Found

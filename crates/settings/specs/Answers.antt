@@ -5,13 +5,13 @@ use Rattle.settings.specs.declared.Status.{Status}
 use Rattle.settings.specs.declared.Status.the-variants.{LengthError, ParameterError}
 use Rattle.settings.specs.declared.Verdict.{Verdict}
 use Rattle.settings.specs.declared.Verdict.the-variants.{Good, Refused, WrongFile}
-use Rattle.settings.specs.declared.Finding.{Finding}
-use Rattle.settings.specs.declared.Finding.the-variants.{Kept, Missing, Wrong}
+use Rattle.rules.specs.declared.Finding.{Finding}
+use Rattle.rules.specs.declared.Finding.the-variants.{Kept, Missing, Wrong}
 use Rattle.settings.specs.declared.Told.{Told}
 use Rattle.settings.specs.declared.Told.the-variants.{Means, Unread, UnreadFile}
 use Rattle.fields.specs.Fields.{readOf}
-use Rattle.fields.specs.Spans.{readingOf}
-use Rattle.settings.specs.Rules.{rules, found}
+use Rattle.spans.specs.Spans.{readingOf}
+use Rattle.rules.specs.Rules.{rules, found}
 use Rattle.settings.specs.Filing.{byFault, fileFaultWord}
 
 -- Table 71: LENGTH_ERROR 7E, PARAMETER_ERROR 9E, behind 91

@@ -1,4 +1,2 @@
-pub mod Rules
 pub mod Filing
 pub mod Answers
-pub mod Numbers

@@ -1,13 +1,9 @@
 // Settings strings (Tables 69 and 73) judged, and good ones read, without any cryptography.
 ghost use mathlib.Core.Path.{_≡_};
-ghost use Rattle.settings.specs.Filing.{fileFaultWord, fileJudged};
-ghost use Rattle.settings.specs.Answers.{statusWord, judged, readAs};
-
-mod fits;
-mod rules;
-
-use fields::Reading;
-pub use rules::record_meets as meets;
+ghost use Rattle.settings.specs.Filing.{fileFaultWord, fileJudged, filedWord, fileStatus};
+ghost use Rattle.settings.specs.Answers.{statusWord, verdictOf, verdictWord, judged, readAs, toldWord};
+use rules::Finding;
+use spans::Reading;
 
 // 917E and 919E of Table 71.
 pub enum Status {
@@ -31,43 +27,6 @@ pub enum Verdict {
     Good,
     Refused(Status),
     WrongFile(FileFault),
-}
-
-// The parts that 01 calls missing, the last for a whole length that is wrong.
-pub enum Part {
-    OptionByte,
-    RightsBytes,
-    SdmOptionsByte,
-    SdmRightsBytes,
-    Whole,
-}
-
-// The tests of 01, in its order.
-pub enum Check {
-    OptionBits,
-    SdmFile,
-    Rights,
-    SdmOptionsBits,
-    SdmRights,
-    MetaMirrors,
-    MetaOff,
-    EncNeeds,
-    EncSize,
-    UidInside,
-    CounterInside,
-    PiccInside,
-    EncInside,
-    MacInside,
-    Shared,
-    MacInput,
-    EncBetween,
-}
-
-// The first rule that a string breaks.
-pub enum Finding {
-    Kept,
-    Missing(Part),
-    Wrong(Check),
 }
 
 // What reading answers.
@@ -99,7 +58,8 @@ pub fn file_fault_word(f: FileFault) -> u16
 
 // Whether there is a file of a number.
 pub fn judge_file(file: u8) -> Filed
-    ensures { λ r. ⌜ r ≡ fileJudged file ⌝ }
+    ensures told { λ r. ⌜ r ≡ fileJudged file ⌝ }
+    ensures number { λ r. ⌜ filedWord r ≡ fileStatus file ⌝ }
 {
     if 31 < file {
         return Filed::Unknown(FileFault::OverThirtyOne);
@@ -113,24 +73,36 @@ pub fn judge_file(file: u8) -> Filed
     Filed::Known
 }
 
+// Whether every rule is kept, or the status of the first that is not.
+fn verdict_of(f: Finding) -> Verdict
+    ensures { λ r. ⌜ r ≡ verdictOf f ⌝ }
+{
+    match f {
+        Finding::Kept => Verdict::Good,
+        Finding::Missing(_) => Verdict::Refused(Status::LengthError),
+        Finding::Wrong(_) => Verdict::Refused(Status::ParameterError),
+    }
+}
+
 // Whether a string is good for a file, or its status; the file byte is judged before the string is looked at.
 pub fn judge(file: u8, s: &[u8]) -> Verdict
     ensures { λ r. ⌜ r ≡ judged file (now (s .entry)) ⌝ }
 {
     let f = judge_file(file);
     match f {
-        Filed::Known => rules::verdict(rules::broken(file, s)),
+        Filed::Known => verdict_of(rules::broken(file, s)),
         Filed::Unknown(e) => Verdict::WrongFile(e),
     }
 }
 
 // What a good string means, or the status of a bad one.
 pub fn read(file: u8, s: &[u8]) -> Told
-    ensures { λ r. ⌜ r ≡ readAs (judged file (now (s .entry))) (now (s .entry)) ⌝ }
+    ensures told { λ r. ⌜ r ≡ readAs (judged file (now (s .entry))) (now (s .entry)) ⌝ }
+    ensures number { λ r. ⌜ toldWord r ≡ verdictWord (judged file (now (s .entry))) ⌝ }
 {
     let v = judge(file, s);
     match v {
-        Verdict::Good => Told::Means(fields::meaning(s)),
+        Verdict::Good => Told::Means(spans::meaning(s)),
         Verdict::Refused(e) => Told::Unread(e),
         Verdict::WrongFile(f) => Told::UnreadFile(f),
     }

@@ -7,7 +7,7 @@ ghost use lib.ListN.{length};
 ghost use Rattle.settings_vectors.specs.Agreeing.{agreeing};
 use libc::STDOUT_FILENO;
 use lines::Decoded;
-use writing::Normalised;
+use normalising::Normalised;
 
 // The status of a refusal, as four digits.
 fn show_status(w: u16, out: &mut [u8]) -> usize {
@@ -18,7 +18,7 @@ fn show_status(w: u16, out: &mut [u8]) -> usize {
 // The normal form or the status of a string, as digits, with their number.
 fn answer(file: u8, s: &[u8], out: &mut [u8]) -> usize {
     let mut room = [0u8; 32];
-    let a = writing::normalise(file, s, &mut room);
+    let a = normalising::normalise(file, s, &mut room);
     match a {
         Normalised::Normal(n) => show_front(&room, n, out),
         Normalised::BadFile(f) => show_status(settings::file_fault_word(f), out),
@@ -187,8 +187,15 @@ fn run(text: &[u8]) {
     print_totals(strings, differ);
 }
 
+// What is read fits into the room.
+fn read_into(room: &mut [u8]) {
+    let n = io::read_full(0, room);
+    if n <= room.len() {
+        run(&room[..n]);
+    }
+}
+
 fn main() {
     let mut text = [0u8; 131072];
-    let n = io::read_full(0, &mut text);
-    run(&text[..n]);
+    read_into(&mut text);
 }

@@ -1,4 +1,1 @@
-pub mod Births
-pub mod Modes
 pub mod Strings
-pub mod Truth

@@ -1,4 +1,1 @@
 pub mod State
-pub mod Fresh
-pub mod Sound
-pub mod Access

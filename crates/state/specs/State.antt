@@ -1,15 +1,15 @@
 -- The state of a tag and its parts (8.2, 9.1, 9.3).
-use mathlib.Core.Bool.{Bool, true, false}
-use mathlib.Core.List.{List, []}
+use mathlib.Core.Bool.{false}
+use mathlib.Core.List.{List}
 use Prim.Native.Nat.{ℕ, _*_}
 use lib.Dec.{eqb, leb}
 use lib.ListN.{take, drop, replicate}
 use Rattle.base.specs.Decide.{pick}
 use Rattle.base.specs.Bytes.{byteAt}
 use Rattle.fields.specs.declared.Head.{Head}
-use Rattle.fields.specs.declared.Reading.{Reading}
+use Rattle.spans.specs.declared.Reading.{Reading}
 use Rattle.fields.specs.Fields.{headOf, readOf}
-use Rattle.fields.specs.Spans.{readingOf}
+use Rattle.spans.specs.Spans.{readingOf}
 use Rattle.state.specs.declared.Files.{Files}
 use Rattle.state.specs.declared.Secrets.{Secrets}
 use Rattle.state.specs.declared.Live.{Live}

@@ -1,16 +1,8 @@
-// The state of a tag, by value, without enums: every state can be written down, and `sound` judges it. With it the fresh
-// tag, what ends, and the access decision.
+// The state of a tag, by value, without enums: every state can be written down, and `soundness` judges it. With it its parts
+// and what ends.
 
-mod delivery;
-mod granting;
-mod judging;
 mod parts;
 
-pub use delivery::fresh;
-pub use granting::access_for;
-pub use granting::read_grant;
-pub use granting::write_grant;
-pub use judging::sound;
 pub use parts::ended;
 pub use parts::file_size;
 pub use parts::file_start;
@@ -79,32 +71,4 @@ pub struct Tag {
     pub pending: Pending,
     pub place: Place,
     pub tap: Tapping,
-}
-
-// Refusal 4, or none.
-pub enum Made {
-    Fresh,
-    WrongUid,
-}
-
-// A fresh tag, or refusal 4 with zeros beside it.
-pub struct Birth {
-    pub made: Made,
-    pub tag: Tag,
-}
-
-// How a command is granted (8.2.3), or not: every condition concerned is F, or not.
-pub enum Grant {
-    ByKey,
-    ByTap,
-    Free,
-    Never,
-    Denied,
-}
-
-// What access gives: the mode, or 919D or 91AE.
-pub enum Access {
-    In(messaging::Mode),
-    Never,
-    Denied,
 }

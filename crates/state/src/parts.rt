@@ -10,7 +10,7 @@ use crate::Pending;
 use crate::Tag;
 use crate::Tapping;
 use fields::Head;
-use fields::Reading;
+use spans::Reading;
 
 // Where a file's bytes begin; behind the last for any other number.
 pub fn file_start(n: u8) -> usize
@@ -83,7 +83,7 @@ pub fn reading_of(f: Files, n: u8) -> Reading
 {
     let rules = f.rules;
     let lens = f.lens;
-    fields::meaning(string_in(&rules, lens, n))
+    spans::meaning(string_in(&rules, lens, n))
 }
 
 // Key k, and zeros for a number over 4.

@@ -7,13 +7,13 @@ use lib.ListN.{length}
 use Rattle.base.specs.Decide.{pick, or}
 use Rattle.base.specs.Bytes.{byteAt, over}
 use Rattle.state.specs.declared.Tag.{Tag}
-use Rattle.state.specs.Sound.{soundTag}
-use Rattle.answer.specs.Answer.{Answer, refusal}
+use Rattle.soundness.specs.Sound.{soundTag}
+use Rattle.replies.specs.Answer.{Answer, refusal}
+use Rattle.wrapped.specs.Wrapped.{wrapped}
+use Rattle.inter_industry.specs.InterIndustry.{interIndustry}
 use Rattle.tag.specs.declared.Outcome.{Outcome}
 use Rattle.tag.specs.declared.Outcome.the-variants.{Replied, SmallRoom, WrongRandom, Unsound}
 use Rattle.tag.specs.declared.Called.{Called}
-use Rattle.tag.specs.Wrapped.{wrapped}
-use Rattle.tag.specs.InterIndustry.{interIndustry}
 
 -- step 1: under 4 or over 261 bytes 6700; CLA not 00 or 90 6E00
 unfoldable pub answered : Tag → List ℕ → List ℕ → Answer

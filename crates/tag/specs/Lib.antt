@@ -1,3 +1,1 @@
-pub mod Wrapped
-pub mod InterIndustry
 pub mod Call

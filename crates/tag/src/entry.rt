@@ -57,7 +57,7 @@ pub fn call(tag: Tag, command: &[u8], random: &[u8], room: &mut [u8]) -> Called
     if random.len() != 20 {
         return unanswered(Outcome::WrongRandom, tag);
     }
-    if state::sound(tag) {
+    if soundness::sound(tag) {
         return reply(tag, command, random, room);
     }
     unanswered(Outcome::Unsound, tag)

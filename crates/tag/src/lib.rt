@@ -1,14 +1,12 @@
 // The tag: a fresh one, and the answer to every command in every state.
 mod answering;
 mod entry;
-mod iso_form;
-mod wrapped_form;
 
+pub use delivery::Birth;
+pub use delivery::Made;
+pub use delivery::fresh;
 pub use entry::call;
-pub use state::Birth;
-pub use state::Made;
 pub use state::Tag;
-pub use state::fresh;
 
 // A reply, or refusals 1 to 3.
 pub enum Outcome {

@@ -9,7 +9,7 @@ ghost use mathlib.Core.Path.{_≡_};
 ghost use Prim.Native.Nat.{_≤_};
 ghost use lib.ListN.{length};
 ghost use Rattle.base.specs.Decide.{pick};
-use state::Made;
+use delivery::Made;
 use state::Tag;
 
 // What a line of digits is.
@@ -85,12 +85,23 @@ fn begin(text: &[u8])
 }
 
 // A log of at most 524288 bytes.
-fn main() {
-    let mut text = [0u8; 524289];
-    let n = io::read_full(0, &mut text);
-    if 524288 < n {
+fn short_enough(text: &[u8]) {
+    if 524288 < text.len() {
         report::too_long();
         return;
     }
-    begin(&text[..n]);
+    begin(text);
+}
+
+// What is read fits into the room.
+fn read_into(room: &mut [u8]) {
+    let n = io::read_full(0, room);
+    if n <= room.len() {
+        short_enough(&room[..n]);
+    }
+}
+
+fn main() {
+    let mut text = [0u8; 524289];
+    read_into(&mut text);
 }

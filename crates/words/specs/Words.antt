@@ -1,5 +1,5 @@
--- (house) How a block is computed: as four words, one for each column (FIPS 197, 3.5), the byte of row 0 a word's lowest. No
--- promise of the floors above names these; crates/aes/proofs/Words.antt links them to the standard's block.
+-- (house) How a block is computed: as four words, one for each column (FIPS 197, 3.5), the byte of row 0 a word's lowest.
+-- crates/aes/proofs/Words.antt links them to the standard's block.
 use mathlib.Core.List.{List, [], _∷_, _++_}
 use Prim.Native.Nat.{ℕ, _+_, _*_, _/_, _%_}
 use Rattle.base.specs.Bytes.{byteAt}

@@ -6,26 +6,15 @@ use Prim.Native.Nat.{ℕ, _+_, _*_, _≤_, _<_}
 use native.Mathlib.Nat.{zero-add, add-zero, add-assoc}
 use native.Mathlib.Numerals.{add-one}
 use native.Mathlib.Omega.{arith}
-use lib.Dec.{ltb}
-use lib.ListN.{length, getD, take, drop, set, length-append, take-append-drop, drop-of-length-le}
-use lib.Seq.{drop-cons, length-take-le, take-at, drop-append-add, drop-drop, set-append-left, set-out}
-use borrow.Author.Tests.{le-leb, lt-ltb, le-ltb}
-use mathlib.Core.Logic.{⊎-elim}
+use lib.ListN.{length, getD, take, drop, length-append, take-append-drop, drop-of-length-le}
+use lib.Seq.{drop-cons, length-take-le, take-at, drop-append-add, drop-drop}
 use Rattle.base.specs.Decide.{pick}
 use Rattle.base.specs.Bytes.{laid, low, over}
-use Rattle.base.proofs.Bytes.{le-or-lt, laid-length}
+use Rattle.base.proofs.Bytes.{laid-length}
 use Rattle.base.proofs.Numbers.{low-length}
-use Rattle.fields.specs.declared.Head.{Head}
+use Rattle.normalising.proofs.Laying.{laid-is, laid-front}
 use Rattle.fields.specs.declared.Settings.{Settings}
 use Rattle.fields.specs.Fields.{after, present, written, listed, frontBytes, sdmBytes, stringOf}
-
-pub laid-is : (s : List ℕ) (i : ℕ) (d : List ℕ) → i + length s ≤ length d → laid s i d ≡ take i d ++ s ++ drop (i + length s) d
-unfolding laid
-laid-is s i d h = rw (le-leb (i + length s) (length d) h)
-
--- at the front
-pub laid-front : (s d : List ℕ) → length s ≤ length d → laid s 0 d ≡ over s d
-laid-front s d h = laid-is s 0 d (rw zero-add h) ∙ rw zero-add
 
 -- nothing laid
 pub laid-none : (i : ℕ) (d : List ℕ) → i ≤ length d → laid [] i d ≡ d
@@ -124,14 +113,6 @@ still-none {ps} {vs} {d} {b} {i} {at} s h f =
 pub eight-small : (ps : List Bool) (vs : List ℕ) → length ps ≡ 8 → 6 + length (written ps vs) ≤ 30
 eight-small ps vs l = omega (arith, written-small ps vs)
 
--- a byte of what stands at the front, adjusted
-pub adjusted : (s d : List ℕ) (i v : ℕ) → pick (ltb i (length s)) (set (over s d) i v) (over s d) ≡ over (set s i v) d
-adjusted s d i v =
-    ⊎-elim
-    (λ (h : length s ≤ i). rw (le-ltb i (length s) h, set-out s i v h))
-    (λ (h : i < length s). rw (lt-ltb i (length s) h, set-append-left s (drop (length s) d) i v h, lib.ListN.length-set s i v))
-    (le-or-lt (length s) i)
-
 -- the bytes in front, those of SDM, the fields
 pub string-on : (r : Settings) → r .head .sdm ≡ true
     → stringOf r ≡ frontBytes (r .head) ++ (sdmBytes (r .head) ++ written (present (r .head)) (listed (r .places)))
@@ -144,9 +125,14 @@ string-off r e =
     ap (λ t. frontBytes (r .head) ++ pick t (sdmBytes (r .head) ++ written (present (r .head)) (listed (r .places))) []) e
     ∙ append-nil (frontBytes (r .head))
 
-pub in-three : (a b w d : List ℕ) {b₁ b₂ b₃ v : List ℕ} → length a ≡ 3 → length b ≡ 3 → 6 + length w ≤ length d
-    → b₁ ≡ laid a 0 d → b₂ ≡ laid b 3 b₁ → v ≡ w → b₃ ≡ laid v 6 b₂ → b₃ ≡ over (a ++ (b ++ w)) d
-in-three a b w d {b₁} {b₂} la lb h e₁ e₂ ev e₃ =
+pub same-three : {a b c x y z : ℕ} → a ≡ x → b ≡ y → c ≡ z → a ∷ b ∷ c ∷ [] ≡ x ∷ y ∷ z ∷ []
+same-three p q r = ap₂ (λ u v. u ∷ v) p (ap₂ (λ u v. u ∷ v) q (ap (λ u. u ∷ []) r))
+
+pub in-three : (a b w d : List ℕ) {x y b₁ b₂ b₃ v : List ℕ} → length a ≡ 3 → length b ≡ 3 → 6 + length w ≤ length d → x ≡ a → y ≡ b
+    → b₁ ≡ laid x 0 d → b₂ ≡ laid y 3 b₁ → v ≡ w → b₃ ≡ laid v 6 b₂ → b₃ ≡ over (a ++ (b ++ w)) d
+in-three a b w d {x} {y} {b₁} {b₂} la lb h ea eb f₁ f₂ ev e₃ =
+    let e₁ : b₁ ≡ laid a 0 d = f₁ ∙ ap (λ z. laid z 0 d) ea in
+    let e₂ : b₂ ≡ laid b 3 b₁ = f₂ ∙ ap (λ z. laid z 3 b₁) eb in
     let l : length (a ++ b) ≡ 6 = simp (length-append, la, lb) in
     let m : length (a ++ (b ++ w)) ≡ 6 + length w = simp (length-append, la, lb) (omega arith) in
     e₃

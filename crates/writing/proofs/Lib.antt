@@ -1,3 +1,4 @@
+pub mod Counted
 pub mod Laying
 pub mod Meets
 pub mod Small

@@ -9,7 +9,7 @@ use Rattle.base.proofs.Bytes.{and-left, and-right}
 use Rattle.fields.specs.declared.Head.{Head}
 use Rattle.fields.specs.declared.Settings.{Settings}
 use Rattle.fields.specs.Fields.{present, listed}
-use Rattle.settings.specs.Rules.{condition, sdmFile, rights, sdmRights, metaMirrors, metaOff, encNeeds, positionRules, found, kept, fieldsFit, sdmMeets, sdmAbsent, sdmPart, modes, meets}
+use Rattle.rules.specs.Rules.{condition, sdmFile, rights, sdmRights, metaMirrors, metaOff, encNeeds, positionRules, found, kept, fieldsFit, sdmMeets, sdmAbsent, sdmPart, modes, meets}
 
 -- both parts of a conjunction
 pub record Both (a b : Bool) : Type 0 where

@@ -9,7 +9,7 @@ use mathlib.Core.Logic.{_⊎_, inl, inr, ⊎-elim}
 use Rattle.base.specs.Decide.{and, or}
 use Rattle.base.proofs.Bytes.{and-left, and-right}
 use Rattle.fields.specs.declared.Head.{Head}
-use Rattle.settings.specs.Rules.{condition, rights, sdmRights, modes}
+use Rattle.rules.specs.Rules.{condition, rights, sdmRights, modes}
 
 pub or-true : (a b : Bool) → or a b ≡ true → (a ≡ true) ⊎ (b ≡ true)
 or-true true b e = inl refl

@@ -1,4 +1,4 @@
--- What normalising a string and writing a record answer, and what the room holds then.
+-- What writing a record answers, and what the room holds then.
 use mathlib.Core.Bool.{Bool, true, false}
 use mathlib.Core.List.{List}
 use Prim.Native.Nat.{ℕ}
@@ -6,37 +6,12 @@ use lib.Dec.{leb}
 use lib.ListN.{length}
 use Rattle.base.specs.Decide.{pick}
 use Rattle.base.specs.Bytes.{over}
-use Rattle.settings.specs.declared.Verdict.{Verdict}
-use Rattle.settings.specs.declared.Verdict.the-variants.{Good, Refused, WrongFile}
 use Rattle.fields.specs.declared.Settings.{Settings}
 use Rattle.fields.specs.Fields.{stringOf}
-use Rattle.settings.specs.Rules.{meets}
+use Rattle.rules.specs.Rules.{meets}
 use Rattle.settings.specs.Filing.{byFault, fileFaultWord}
-use Rattle.settings.specs.Answers.{statusWord}
-use Rattle.fields.specs.Normal.{normal}
-use Rattle.writing.specs.declared.Normalised.{Normalised}
-use Rattle.writing.specs.declared.Normalised.the-variants.{Normal, BadFile, BadString, RoomTooSmall}
 use Rattle.writing.specs.declared.Written.{Written}
 use Rattle.writing.specs.declared.Written.the-variants.{Laid, NoFile, BadRecord, NoRoom}
-
--- Normalising into a room: the string's refusal first, then the room
-unfoldable pub normalised : Verdict → List ℕ → List ℕ → Normalised
-normalised Good s room = pick (leb (length s) (length room)) (Normal (length s)) RoomTooSmall
-normalised (Refused e) s room = BadString e
-normalised (WrongFile f) s room = BadFile f
-
--- and what the room holds then
-unfoldable pub normalRoom : Verdict → List ℕ → List ℕ → List ℕ
-normalRoom Good s room = pick (leb (length s) (length room)) (over (normal s) room) room
-normalRoom (Refused e) s room = room
-normalRoom (WrongFile f) s room = room
-
--- its number: the length of the normal string, the status of a bad file or string, or the house's 1006 for a room too small
-unfoldable pub normalNumber : Normalised → ℕ
-normalNumber (Normal n) = n
-normalNumber (BadFile f) = fileFaultWord f
-normalNumber (BadString e) = statusWord e
-normalNumber RoomTooSmall = 1006
 
 -- Writing a record into a room: the record's refusal first, then the room
 unfoldable pub recordAs : Bool → Settings → List ℕ → Written
@@ -60,3 +35,11 @@ writtenNumber (Laid n) = n
 writtenNumber (NoFile f) = fileFaultWord f
 writtenNumber BadRecord = 1007
 writtenNumber NoRoom = 1006
+
+-- the same number, case by case
+unfoldable pub recordNumber : Bool → Settings → List ℕ → ℕ
+recordNumber true r room = pick (leb (length (stringOf r)) (length room)) (length (stringOf r)) 1006
+recordNumber false r room = 1007
+
+unfoldable pub writingNumber : ℕ → Settings → List ℕ → ℕ
+writingNumber n r room = byFault n fileFaultWord (recordNumber (meets n r) r room)

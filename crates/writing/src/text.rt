@@ -1,70 +1,18 @@
-// Normal strings laid into a room.
+// The strings of records laid into a room.
 ghost use mathlib.Core.Path.{_≡_};
 ghost use mathlib.Core.Bool.{true};
 ghost use mathlib.Core.List.{[]};
 ghost use Prim.Native.Nat.{_+_, _*_, _≤_};
-ghost use lib.Dec.{leb, ltb};
-ghost use lib.ListN.{length, take, set};
+ghost use lib.Dec.{leb};
+ghost use lib.ListN.{length, take};
 ghost use Rattle.base.specs.Decide.{pick};
 ghost use Rattle.base.specs.Bytes.{low, laid, over};
 ghost use Rattle.fields.specs.Fields.{one, after, written, stringOf};
-ghost use Rattle.settings.specs.Rules.{rights, sdmRights, modes};
-ghost use Rattle.fields.specs.Normal.{plainMode, freeBits};
-ghost use Rattle.settings.specs.declared.Verdict.the-variants.{Good};
-ghost use Rattle.writing.specs.Answers.{normalised, normalRoom, recordAs, recordRoom};
-use super::Normalised;
+ghost use Rattle.rules.specs.Rules.{rights, sdmRights, modes};
+ghost use Rattle.writing.specs.Answers.{recordAs, recordRoom};
 use super::Written;
 use fields::Head;
 use fields::Settings;
-
-fn plain_mode(b: u8) -> u8
-    ensures { λ r. ⌜ r ≡ plainMode b ⌝ }
-{
-    if b % 4 == 2 {
-        return b - 2;
-    }
-    b
-}
-
-fn free_bits(sdm: bool, b: u8) -> u8
-    ensures { λ r. ⌜ r ≡ freeBits sdm b ⌝ }
-{
-    if sdm {
-        return 240 + b % 16;
-    }
-    b
-}
-
-// Stores a byte at an index below n.
-fn adjust(room: &mut [u8], n: usize, i: usize, v: u8)
-    ensures { λ _. ⌜ now (room .exit) ≡ pick (ltb i n) (set (now (room .entry)) i v) (now (room .entry)) ⌝ }
-{
-    if i < n {
-        if i < room.len() {
-            room[i] = v;
-        }
-    }
-}
-
-// The normal form of a good string: its bytes, two of them adjusted.
-pub fn lay_normal(s: &[u8], room: &mut [u8]) -> Normalised
-    ensures answer { λ r. ⌜ r ≡ normalised Good (now (s .entry)) (now (room .entry)) ⌝ }
-    ensures left { λ r. ⌜ now (room .exit) ≡ normalRoom Good (now (s .entry)) (now (room .entry)) ⌝ }
-{
-    let n = s.len();
-    if n <= room.len() {
-        base::put(s, room, 0);
-        adjust(room, n, 0, plain_mode(base::at(s, 0)));
-        adjust(
-            room,
-            n,
-            4,
-            free_bits(fields::head_of(s).sdm, base::at(s, 4)),
-        );
-        return Normalised::Normal(n);
-    }
-    Normalised::RoomTooSmall
-}
 
 fn flag(b: bool, x: u8) -> u8
     ensures { λ r. ⌜ (r ≡ x * one b) × (r ≤ x) ⌝ }

@@ -1,4 +1,5 @@
 -- `an12196::compare` meets its contract.
+use mathlib.Core.Path.{refl}
 use borrow.Author.Needs.{needs}
 use Rattle.an12196.proofs.compare.Statement.{statement}
 use Rattle.an12196.proofs.compare.Tie as tie
@@ -10,7 +11,7 @@ count-requires : tie.Need-count-requires
 count-requires c κs = search needs
 
 returns : tie.Need-returns
-returns c = cc
+returns c = rw (c .count .ensures, c .before .alike .ensures) refl
 
 pub compare-spec : {M : Type 1} → statement M
 compare-spec = tie.close (tie.spec alike-requires count-requires returns)

@@ -1,4 +1,9 @@
+use mathlib.Core.Path.{_≡_}
+use native.Mathlib.Omega.{arith}
+use lib.ListN.{length}
+use Rattle.replies.proofs.Equal.{gives-as}
 use Rattle.auth.specs.Parts.{begun}
+use Rattle.auth.proofs.Replies.{room-given}
 use borrow.Author.Needs.{needs}
 use Rattle.auth.proofs.begin.Statement.{statement}
 use Rattle.auth.proofs.begin.Tie as tie
@@ -24,12 +29,14 @@ reply-requires c κs = search needs
 returns : tie.Need-returns
 unfolding begun
 returns c =
+    let e = c .before .before .before .before .part-one .result in
+    let l : length e ≡ 16 = search needs in
     rw (
       ← c .before .before .before .before .before .key-of .ensures,
       ← c .before .before .before .before .part-one .ensures,
       ← c .before .before .before .no-live .ensures,
       ← c .before .before .talking .ensures,
-    ) (c .reply .ensures)
+    ) (gives-as (c .reply .ensures) (room-given (c .before .before .talking .result) 0x91AF e (omega arith)))
 
 pub begin-spec : {M : Type 1} → statement M
 begin-spec =

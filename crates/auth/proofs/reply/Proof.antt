@@ -1,7 +1,9 @@
 use mathlib.Core.Path.{ap}
-use Rattle.answer.specs.Answer.{given}
-use Rattle.answer.proofs.Equal.{gives-as}
-use Rattle.auth.proofs.Replies.{given-whole}
+use Prim.Native.Nat.{min}
+use lib.ListN.{length, take}
+use Rattle.replies.specs.Answer.{given}
+use Rattle.replies.proofs.Equal.{gives-as}
+use Rattle.auth.specs.Parts.{roomGiven}
 use borrow.Author.Needs.{needs}
 use Rattle.auth.proofs.reply.Statement.{statement}
 use Rattle.auth.proofs.reply.Tie as tie
@@ -16,9 +18,10 @@ give-requires : tie.Need-give-requires
 give-requires c κs = search needs
 
 returns : tie.Need-returns
+unfolding roomGiven
 returns c =
     let a = c .before .before .before .before .before .args in
-    gives-as (c .give .ensures) (ap (given (a .tag) (a .status)) (given-whole (a .e .now) _ (c .before .before .before .before .before .pre) (c .before .before .put .ensures)))
+    gives-as (c .give .ensures) (ap (λ b. given (a .tag) (a .status) (take (min (length (a .e .now)) 256) b)) (c .before .before .put .ensures))
 
 pub reply-spec : {M : Type 1} → statement M
 reply-spec = tie.close (tie.spec slice-aggregate-put put-requires give-requires returns)

@@ -1,8 +1,8 @@
 -- `authentication::decipher` meets its contract: 32 bytes laid over 32, then decrypted.
 use Rattle.authentication.specs.Authentication.{deciphered, zeros}
-use Rattle.aes.proofs.Turns.{chains-whole}
+use Rattle.cbc.proofs.Turns.{chains-whole}
 use Rattle.base.proofs.Bytes.{laid-whole}
-use Rattle.aes.specs.Cbc.{cbcBack}
+use Rattle.cbc.specs.Cbc.{cbcBack}
 use lib.ListN.{length}
 use mathlib.Core.Path.{_≡_, refl, ap, ap₂, _∙_}
 use borrow.Author.Needs.{needs}

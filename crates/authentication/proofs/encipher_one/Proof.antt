@@ -1,6 +1,6 @@
 -- `authentication::encipher_one` meets its contract: a block is whole.
-use Rattle.aes.proofs.Turns.{chains-whole}
-use Rattle.aes.specs.Cbc.{cbcOut}
+use Rattle.cbc.proofs.Turns.{chains-whole}
+use Rattle.cbc.specs.Cbc.{cbcOut}
 use Rattle.authentication.specs.Authentication.{enciphered}
 use lib.ListN.{length}
 use mathlib.Core.Path.{_≡_, refl, ap, _∙_}

@@ -1,7 +1,7 @@
 -- `authentication::encipher_two` meets its contract: two blocks are whole.
 use Rattle.authentication.specs.Authentication.{enciphered}
-use Rattle.aes.proofs.Turns.{chains-whole}
-use Rattle.aes.specs.Cbc.{cbcOut}
+use Rattle.cbc.proofs.Turns.{chains-whole}
+use Rattle.cbc.specs.Cbc.{cbcOut}
 use lib.ListN.{length}
 use mathlib.Core.Path.{_≡_, refl, ap, _∙_}
 use borrow.Author.Needs.{needs}

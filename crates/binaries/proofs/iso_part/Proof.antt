@@ -2,7 +2,7 @@
 use mathlib.Core.Path.{_≡_, sym, _∙_}
 use mathlib.Core.Bool.{true, false}
 use borrow.Author.Needs.{needs}
-use Rattle.answer.specs.Taps.{isTap}
+use Rattle.taps.specs.Taps.{isTap}
 use Rattle.binaries.specs.Binaries.{isoPart}
 use Rattle.binaries.proofs.iso_part.Statement.{statement}
 use Rattle.binaries.proofs.iso_part.Tie as tie

@@ -1,7 +1,7 @@
 -- `binaries::may_use` meets its contract.
 use mathlib.Core.Path.{ap, _∙_}
 use borrow.Author.Needs.{needs}
-use Rattle.state.specs.Access.{accessFor}
+use Rattle.access.specs.Access.{accessFor}
 use Rattle.state.proofs.Strings.{head-there}
 use Rattle.binaries.specs.Binaries.{mayPass, mayUse}
 use Rattle.binaries.proofs.may_use.Statement.{statement}

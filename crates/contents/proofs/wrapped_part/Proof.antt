@@ -2,7 +2,7 @@
 use mathlib.Core.Path.{_≡_, sym, _∙_}
 use mathlib.Core.Bool.{true, false}
 use borrow.Author.Needs.{needs}
-use Rattle.answer.specs.Taps.{isTap}
+use Rattle.taps.specs.Taps.{isTap}
 use Rattle.contents.specs.Contents.{wrappedPart}
 use Rattle.contents.proofs.wrapped_part.Statement.{statement}
 use Rattle.contents.proofs.wrapped_part.Tie as tie

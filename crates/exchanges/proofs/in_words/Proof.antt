@@ -23,38 +23,38 @@ end-requires-3 c κs = search needs
 behind-requires-3 : tie.Need-behind-requires-3
 behind-requires-3 c κs = search needs
 
-sub-either-way : tie.Need-sub-either-way
-sub-either-way c = search needs
+slice-aggregate-worked : tie.Need-slice-aggregate-worked
+slice-aggregate-worked c = simp length-take (omega arith)
 
-part-either-way-start : tie.Need-part-either-way-start
-part-either-way-start c = search needs
+sub-worked : tie.Need-sub-worked
+sub-worked c = search needs
 
-part-either-way-end : tie.Need-part-either-way-end
-part-either-way-end c = search needs
+part-worked-start : tie.Need-part-worked-start
+part-worked-start c = search needs
 
-slice-aggregate-either-way : tie.Need-slice-aggregate-either-way
-slice-aggregate-either-way c = simp length-take (omega arith)
+part-worked-end : tie.Need-part-worked-end
+part-worked-end c = search needs
 
-sub-either-way-2 : tie.Need-sub-either-way-2
-sub-either-way-2 c = search needs
+sub-worked-2 : tie.Need-sub-worked-2
+sub-worked-2 c = search needs
 
-part-either-way-start-2 : tie.Need-part-either-way-start-2
-part-either-way-start-2 c = search needs
+part-worked-start-2 : tie.Need-part-worked-start-2
+part-worked-start-2 c = search needs
 
-part-either-way-end-2 : tie.Need-part-either-way-end-2
-part-either-way-end-2 c = search needs
+part-worked-end-2 : tie.Need-part-worked-end-2
+part-worked-end-2 c = search needs
 
-sub-either-way-3 : tie.Need-sub-either-way-3
-sub-either-way-3 c = search needs
+sub-worked-3 : tie.Need-sub-worked-3
+sub-worked-3 c = search needs
 
-part-either-way-start-3 : tie.Need-part-either-way-start-3
-part-either-way-start-3 c = search needs
+part-worked-start-3 : tie.Need-part-worked-start-3
+part-worked-start-3 c = search needs
 
-part-either-way-end-3 : tie.Need-part-either-way-end-3
-part-either-way-end-3 c = search needs
+part-worked-end-3 : tie.Need-part-worked-end-3
+part-worked-end-3 c = search needs
 
-either-way-requires : tie.Need-either-way-requires
-either-way-requires c κs = search needs
+worked-requires : tie.Need-worked-requires
+worked-requires c κs = search needs
 
 returns : tie.Need-returns
 returns c = search needs
@@ -69,15 +69,15 @@ in-words-spec =
     behind-requires-2
     end-requires-3
     behind-requires-3
-    sub-either-way
-    part-either-way-start
-    part-either-way-end
-    slice-aggregate-either-way
-    sub-either-way-2
-    part-either-way-start-2
-    part-either-way-end-2
-    sub-either-way-3
-    part-either-way-start-3
-    part-either-way-end-3
-    either-way-requires
+    slice-aggregate-worked
+    sub-worked
+    part-worked-start
+    part-worked-end
+    sub-worked-2
+    part-worked-start-2
+    part-worked-end-2
+    sub-worked-3
+    part-worked-start-3
+    part-worked-end-3
+    worked-requires
     returns)

@@ -12,26 +12,19 @@ slice-aggregate-decode c = search needs
 decode-requires : tie.Need-decode-requires
 decode-requires c κs = search needs
 
-slice-aggregate-decode-2 : tie.Need-slice-aggregate-decode-2
-slice-aggregate-decode-2 c = search needs
-
-decode-requires-2 : tie.Need-decode-requires-2
-decode-requires-2 c κs = search needs
-
 enum-known-n : tie.Need-enum-known-n
 enum-known-n c = search needs
 
 array-share-prefix-c : tie.Need-array-share-prefix-c
 array-share-prefix-c c = search needs
 
-slice-aggregate-exchange : tie.Need-slice-aggregate-exchange
-slice-aggregate-exchange c = let l : length (c .before .before .before .before .before .before .decode2 .last .1 .0) ≡ 261 = search needs in simp length-take (omega (arith, c .before .if1 .taken))
+slice-aggregate-drawn : tie.Need-slice-aggregate-drawn
+slice-aggregate-drawn c =
+    let l : length (c .before .before .before .before .before .before .decode .last .1 .0) ≡ 261 = search needs in
+    simp length-take (omega (arith, c .before .if1 .taken))
 
-slice-aggregate-exchange-2 : tie.Need-slice-aggregate-exchange-2
-slice-aggregate-exchange-2 c = search needs
-
-exchange-requires : tie.Need-exchange-requires
-exchange-requires c κs = search needs
+drawn-requires : tie.Need-drawn-requires
+drawn-requires c κs = search needs
 
 returns : tie.Need-returns
 returns c = search needs
@@ -75,13 +68,10 @@ played-spec =
     (tie.spec
     slice-aggregate-decode
     decode-requires
-    slice-aggregate-decode-2
-    decode-requires-2
     enum-known-n
     array-share-prefix-c
-    slice-aggregate-exchange
-    slice-aggregate-exchange-2
-    exchange-requires
+    slice-aggregate-drawn
+    drawn-requires
     returns
     slice-aggregate-judged
     judged-requires

@@ -1,6 +1,6 @@
 -- `keeping::kept` meets its contract.
 use borrow.Author.Needs.{needs}
-use Rattle.keeping.proofs.Keeping.{kept-is}
+use Rattle.keeping.proofs.Keeping.{keeps}
 use Rattle.keeping.proofs.kept.Statement.{statement}
 use Rattle.keeping.proofs.kept.Tie as tie
 
@@ -24,7 +24,7 @@ returns c =
     let c7 = c .before .before .before .before .before .before .before in
     let c9 = c7 .before .before in
     let a = c9 .args in
-    kept-is (a .s .now) (a .uid .now) (c7 .from-image .result) _ _ _ (c7 .from-image .ensures)
+    keeps (a .s .now) (a .uid .now) (c7 .from-image .result) _ _ _ (c7 .from-image .ensures)
     (c .before .before .before .before .sound .ensures) (c .before .alike .ensures) (c .judged .ensures)
 
 pub kept-spec : {M : Type 1} → statement M

@@ -4,7 +4,7 @@ use mathlib.Core.List.{[]}
 use borrow.Author.Tests.{eq-eqb, ne-eqb}
 use Rattle.messaging.specs.declared.Mode.the-variants.{Full}
 use Rattle.state.specs.State.{endedOf}
-use Rattle.answer.specs.Answer.{Gives, given, accepted}
+use Rattle.replies.specs.Answer.{Gives, given, accepted}
 use Rattle.keyring.specs.Keyring.{changedKey}
 use Rattle.keyring.proofs.Changing.{new-is, status-is, next-is}
 use borrow.Author.Needs.{needs}

@@ -2,7 +2,7 @@
 use mathlib.Core.Path.{subst}
 use lib.ListN.{take}
 use Rattle.base.specs.Bytes.{laid}
-use Rattle.answer.specs.Answer.{Gives, accepted}
+use Rattle.replies.specs.Answer.{Gives, accepted}
 use Rattle.keyring.specs.Keyring.{keyVersion}
 use borrow.Author.Needs.{needs}
 use Rattle.keyring.proofs.key_version.Statement.{statement}

@@ -1,4 +1,4 @@
-use Rattle.fields.specs.Spans.{endOf, inside}
+use Rattle.spans.specs.Spans.{endOf, inside}
 use mathlib.Core.Path.{sym}
 use native.Mathlib.Omega.{arith}
 use borrow.Author.Tests.{le-leb, lt-leb}

@@ -2,7 +2,7 @@ use mathlib.Core.Path.{_≡_, ap, sym, _∙_}
 use native.Mathlib.Omega.{arith}
 use Prim.Native.Nat.{_+_, _*_, _/_}
 use lib.ListN.{length}
-use Rattle.aes.specs.Cbc.{cbcOut}
+use Rattle.cbc.specs.Cbc.{cbcOut}
 use Rattle.key_expansion.specs.Keys.{keyExpansion}
 use Rattle.sdm.specs.Tap.{tapIv}
 use Rattle.mirror.specs.Mirrors.{mirrorAt, stretch, encData}

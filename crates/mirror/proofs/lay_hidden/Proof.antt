@@ -3,7 +3,7 @@ use Prim.Native.Nat.{_%_}
 use lib.ListN.{length}
 use borrow.Author.Tests.{eq-eqb}
 use Rattle.base.specs.Decide.{pick}
-use Rattle.aes.specs.Cbc.{cbcOut}
+use Rattle.cbc.specs.Cbc.{cbcOut}
 use Rattle.key_expansion.specs.Keys.{keyExpansion}
 use Rattle.sdm.specs.Tap.{tapIv}
 use Rattle.mirror.specs.Mirrors.{mirrorAt}

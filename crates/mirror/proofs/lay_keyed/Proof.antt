@@ -1,5 +1,5 @@
 use mathlib.Core.Path.{ap, ap₂, _∙_}
-use Rattle.aes.specs.Cmac.{mac}
+use Rattle.cmac.specs.Cmac.{mac}
 use Rattle.mirror.specs.Mirrors.{mirrorAt, stretch, encData, withEnc, withMac}
 use borrow.Author.Needs.{needs}
 use Rattle.mirror.proofs.lay_keyed.Statement.{statement}

@@ -1,6 +1,6 @@
 use mathlib.Core.Path.{ap, sym, _∙_}
 use native.Mathlib.Omega.{arith}
-use Rattle.aes.specs.Cmac.{mac}
+use Rattle.cmac.specs.Cmac.{mac}
 use Rattle.mirror.proofs.Laying.{no-stretch}
 use borrow.Author.Needs.{needs}
 use Rattle.mirror.proofs.mac_between.Statement.{statement}

@@ -1,11 +1,14 @@
 -- `plans::line_meaning` meets its contract.
-use Rattle.plans.proofs.Tidying.{seen, seen-fits, cut-line, cut-command, cut-random, cut-expected}
-use Rattle.plans.specs.Plan.{tidied, said, lineOf, lineCommand, lineRandom, lineExpected}
+use Rattle.plans.proofs.Long.{cut-line, cut-command, cut-random, cut-expected}
+use Rattle.first_lines.proofs.Tidying.{seen, seen-fits}
+use Rattle.plans.specs.Plan.{lineOf, lineCommand, lineRandom, lineExpected}
+use Rattle.first_lines.specs.Said.{tidied, said}
+use Rattle.plans.proofs.Numbering.{means}
 use Rattle.lines.proofs.Steps.{seek-within}
 use lib.ListN.{length, take, replicate, length-take}
 use Prim.Native.Nat.{_≤_}
 use native.Mathlib.Omega.{arith}
-use mathlib.Core.Path.{_≡_, refl, sym, ap, ap₂, _∙_}
+use mathlib.Core.Path.{_≡_, refl, ap, _∙_}
 use borrow.Author.Needs.{needs}
 use Rattle.plans.proofs.line_meaning.Statement.{statement}
 use Rattle.plans.proofs.line_meaning.Tie as tie
@@ -62,18 +65,13 @@ returns c =
     let t =
     seen l (replicate 1700 0) refl (c .before .before .before .before .before .before .before .before .before .before .before .before .tidy .ensures .0)
     (c .before .before .before .before .before .before .before .before .before .before .before .before .tidy .ensures .1)
-    ∙ ap (λ e. take 1700 (tidied (take e s))) (c .before .before .before .before .before .before .before .before .before .before .before .before .before .before .before .find .ensures) in (
-      c .before .before .before .before .before .before .tidy-line .ensures .0
-          ∙ ap (λ x. lineOf x (a .command .now) (a .random .now) (a .expected .now)) t
-          ∙ cut-line (a .command .now) (a .random .now) (a .expected .now) _,
-      (
-        c .before .before .before .before .before .before .tidy-line .ensures .1 .0 ∙ ap (λ x. lineCommand x (a .command .now)) t ∙ cut-command (a .command .now) _,
-        (
-          c .before .before .before .before .before .before .tidy-line .ensures .1 .1 .0 ∙ ap (λ x. lineRandom x (a .random .now)) t ∙ cut-random (a .random .now) _,
-          c .before .before .before .before .before .before .tidy-line .ensures .1 .1 .1 ∙ ap (λ x. lineExpected x (a .expected .now)) t ∙ cut-expected (a .expected .now) _,
-        ),
-      ),
-    )
+    ∙ ap (λ e. take 1700 (tidied (take e s))) (c .before .before .before .before .before .before .before .before .before .before .before .before .before .before .before .find .ensures) in
+    means s (a .command .now) (a .random .now) (a .expected .now) _ _ _ _
+    (c .before .before .before .before .before .before .tidy-line .ensures .0 ∙ ap (λ x. lineOf x (a .command .now) (a .random .now) (a .expected .now)) t
+    ∙ cut-line (a .command .now) (a .random .now) (a .expected .now) _)
+    (c .before .before .before .before .before .before .tidy-line .ensures .1 .0 ∙ ap (λ x. lineCommand x (a .command .now)) t ∙ cut-command (a .command .now) _)
+    (c .before .before .before .before .before .before .tidy-line .ensures .1 .1 .0 ∙ ap (λ x. lineRandom x (a .random .now)) t ∙ cut-random (a .random .now) _)
+    (c .before .before .before .before .before .before .tidy-line .ensures .1 .1 .1 ∙ ap (λ x. lineExpected x (a .expected .now)) t ∙ cut-expected (a .expected .now) _)
 
 pub line-meaning-spec : {M : Type 1} → statement M
 line-meaning-spec =

@@ -3,7 +3,7 @@ use Prim.Native.Nat.{_≤_}
 use mathlib.Core.Path.{_≡_, refl}
 use lib.ListN.{length, replicate, length-take}
 use native.Mathlib.Omega.{arith}
-use Rattle.keeping.proofs.Keeping.{beside-fits}
+use Rattle.arguments.proofs.NewName.{beside-fits}
 use borrow.Author.Needs.{needs}
 use Rattle.rehearse.proofs.play_target.Statement.{statement}
 use Rattle.rehearse.proofs.play_target.Tie as tie

@@ -2,7 +2,7 @@
 use mathlib.Core.Path.{subst}
 use mathlib.Core.List.{[]}
 use Rattle.state.specs.State.{placed}
-use Rattle.answer.specs.Answer.{Gives, given}
+use Rattle.replies.specs.Answer.{Gives, given}
 use Rattle.selects.specs.Selects.{moved}
 use borrow.Author.Needs.{needs}
 use Rattle.selects.proofs.move_to.Statement.{statement}

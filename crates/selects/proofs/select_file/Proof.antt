@@ -2,7 +2,7 @@
 use mathlib.Core.Path.{subst}
 use mathlib.Core.List.{[]}
 use Rattle.state.specs.State.{placed, tapped}
-use Rattle.answer.specs.Answer.{Gives, given}
+use Rattle.replies.specs.Answer.{Gives, given}
 use Rattle.selects.proofs.Choices.{atFile, file-there, file-not}
 use borrow.Author.Needs.{needs}
 use Rattle.selects.proofs.select_file.Statement.{statement}

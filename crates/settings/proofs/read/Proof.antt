@@ -2,7 +2,7 @@
 use borrow.Author.Needs.{needs}
 use mathlib.Core.Path.{refl, sym, ap, _∙_}
 use Rattle.settings.specs.declared.Told.the-variants.{Means}
-use Rattle.settings.specs.Answers.{readAs}
+use Rattle.settings.specs.Answers.{verdictWord, readAs, toldWord}
 use Rattle.settings.proofs.read.Statement.{statement}
 use Rattle.settings.proofs.read.Tie as tie
 
@@ -22,16 +22,16 @@ enum-known-v-2 : tie.Need-enum-known-v-2
 enum-known-v-2 c = search needs
 
 returns : tie.Need-returns
-unfolding readAs
-returns c = rw (sym (c .before .before .before .judge .ensures) ∙ c .before .enum-told .given .1) (ap Means (c .meaning .ensures))
+unfolding readAs toldWord verdictWord
+returns c = rw (sym (c .before .before .before .judge .ensures) ∙ c .before .enum-told .given .1) (ap Means (c .meaning .ensures), refl)
 
 returns-2 : tie.Need-returns-2
-unfolding readAs
-returns-2 c = rw (sym (c .before .before .before .judge .ensures) ∙ c .before .v .given .1) refl
+unfolding readAs toldWord verdictWord
+returns-2 c = rw (sym (c .before .before .before .judge .ensures) ∙ c .before .v .given .1) (refl, refl)
 
 returns-3 : tie.Need-returns-3
-unfolding readAs
-returns-3 c = rw (sym (c .before .before .before .judge .ensures) ∙ c .before .v2 .given .1) refl
+unfolding readAs toldWord verdictWord
+returns-3 c = rw (sym (c .before .before .before .judge .ensures) ∙ c .before .v2 .given .1) (refl, refl)
 
 pub read-spec : {M : Type 1} → statement M
 read-spec =

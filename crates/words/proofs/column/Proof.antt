@@ -1,4 +1,5 @@
 -- `words::column` meets its contract: the definition, call by call.
+use mathlib.Core.Path.{refl}
 use Rattle.words.specs.Words.{columnOf}
 use borrow.Author.Needs.{needs}
 use Rattle.words.proofs.column.Statement.{statement}
@@ -57,7 +58,15 @@ turned-requires-6 c κs = search needs
 
 returns : tie.Need-returns
 unfolding columnOf
-returns c = cc
+returns c =
+    rw (
+      c .turned6 .ensures,
+      c .before .turned5 .ensures,
+      c .before .before .turned4 .ensures,
+      c .before .before .before .turned3 .ensures,
+      c .before .before .before .before .turned2 .ensures,
+      c .before .before .before .before .before .turned .ensures,
+    ) refl
 
 pub column-spec : {M : Type 1} → statement M
 column-spec =

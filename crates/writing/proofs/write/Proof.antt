@@ -1,10 +1,11 @@
 -- `writing::write` meets its contract.
 use borrow.Author.Needs.{needs}
-use mathlib.Core.Path.{sym, _∙_}
-use Rattle.settings.specs.Rules.{meets}
+use mathlib.Core.Path.{sym, ap, _∙_}
+use Rattle.rules.specs.Rules.{meets}
 use Rattle.settings.proofs.Filing.{known-file, unknown-file}
 use Rattle.writing.specs.declared.Written.the-variants.{NoFile}
-use Rattle.writing.specs.Answers.{recordAs, recordRoom, writtenAs, writtenRoom}
+use Rattle.writing.specs.Answers.{recordAs, recordRoom, writtenAs, writtenRoom, writtenNumber}
+use Rattle.writing.proofs.Counted.{written-number}
 use Rattle.writing.proofs.write.Statement.{statement}
 use Rattle.writing.proofs.write.Tie as tie
 
@@ -29,10 +30,11 @@ returns c =
     let s = c .before .before .before .before .before .before .before .before .args in
     let n = s .file in
     let d = s .room .now in
-    let e = sym (c .before .before .before .before .before .before .judge-file .ensures) ∙ c .before .before .before .before .enum-told .given .1 in
-    let w = c .before .before .write-record .ensures in (
-      w .0 ∙ sym (known-file n NoFile (recordAs (meets n (s .r)) (s .r) d) e),
-      w .1 ∙ sym (known-file n (λ f. d) (recordRoom (meets n (s .r)) (s .r) d) e),
+    let e = sym (c .before .before .before .before .before .before .judge-file .ensures .0) ∙ c .before .before .before .before .enum-told .given .1 in
+    let w = c .before .before .write-record .ensures in
+    let a = w .0 ∙ sym (known-file n NoFile (recordAs (meets n (s .r)) (s .r) d) e) in (
+      a,
+      (w .1 ∙ sym (known-file n (λ f. d) (recordRoom (meets n (s .r)) (s .r) d) e), ap writtenNumber a ∙ written-number n (s .r) d),
     )
 
 returns-2 : tie.Need-returns-2
@@ -42,9 +44,10 @@ returns-2 c =
     let n = s .file in
     let d = s .room .now in
     let g = c .before .f .given .0 .0 in
-    let e = sym (c .before .before .before .judge-file .ensures) ∙ c .before .f .given .1 in (
-      sym (unknown-file n NoFile (recordAs (meets n (s .r)) (s .r) d) g e),
-      sym (unknown-file n (λ f. d) (recordRoom (meets n (s .r)) (s .r) d) g e),
+    let e = sym (c .before .before .before .judge-file .ensures .0) ∙ c .before .f .given .1 in
+    let a = sym (unknown-file n NoFile (recordAs (meets n (s .r)) (s .r) d) g e) in (
+      a,
+      (sym (unknown-file n (λ f. d) (recordRoom (meets n (s .r)) (s .r) d) g e), ap writtenNumber a ∙ written-number n (s .r) d),
     )
 
 pub write-spec : {M : Type 1} → statement M

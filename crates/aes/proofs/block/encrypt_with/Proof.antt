@@ -1,16 +1,14 @@
 -- `aes::block::encrypt_with` meets its contract: each turn is one round of the definition.
-use Rattle.aes.proofs.Rounds.{rounds-more, rounds-none}
-use mathlib.Core.Path.{_≡_, refl, sym, _∙_}
+use Rattle.aes.proofs.Rounds.{Forth, forth-none, forth-more, enciphers}
+use mathlib.Core.Path.{_≡_}
 use Prim.Native.Nat.{_-_, _≤_}
 use native.Mathlib.Omega.{arith}
-use Rattle.aes.specs.Block.{rounds, cipher}
-use Rattle.words.specs.Words.{blockOf}
 use borrow.Author.Needs.{needs}
 use Rattle.aes.proofs.block.encrypt_with.Statement.{statement}
 use Rattle.aes.proofs.block.encrypt_with.Tie as tie
 
 abbrev Inv-loop : tie.InvT-loop
-Inv-loop t w x₀ i₀ x i = (i ≤ 9) × (blockOf x ≡ rounds w i (blockOf x₀))
+Inv-loop t w x₀ i₀ x i = (i ≤ 9) × Forth t w x₀ x i
 
 abbrev μ-loop : tie.MeasureT-loop
 μ-loop t w x₀ i₀ x i = 9 - i
@@ -25,7 +23,7 @@ with-key-requires : tie.Need-with-key-requires Inv-loop μ-loop
 with-key-requires c κs = search needs
 
 loop-holds : tie.Need-loop-holds Inv-loop μ-loop
-loop-holds c = (omega arith, sym (rounds-none _ _))
+loop-holds c = (omega arith, forth-none _ _ _)
 
 add-k : tie.Need-add-k Inv-loop μ-loop
 add-k c = search needs
@@ -46,7 +44,7 @@ loop-less : tie.Need-loop-less Inv-loop μ-loop
 loop-less c = search needs
 
 loop-again : tie.Need-loop-again Inv-loop μ-loop
-loop-again c = (omega arith, c .round .ensures ∙ rw (c .before .before .before .loop .inv .1) (sym (rounds-more _ _ _)))
+loop-again c = let l = c .before .before .before .loop in (omega arith, forth-more _ _ _ (l .x) _ (l .i) (l .inv .1) (c .round .ensures))
 
 element-copy-out-last : tie.Need-element-copy-out-last Inv-loop μ-loop
 element-copy-out-last c = search needs
@@ -61,14 +59,13 @@ bytes-of-requires : tie.Need-bytes-of-requires Inv-loop μ-loop
 bytes-of-requires c κs = search needs
 
 returns : tie.Need-returns Inv-loop μ-loop
-unfolding cipher
 returns c =
     let c5 = c .before .before .before .before .before in
     let c6 = c5 .before in
     let c7 = c6 .before in
     let e : c5 .loop .i ≡ 9 = omega arith in
-    c .bytes-of .ensures ∙ c .before .with-key2 .ensures
-    ∙ rw (c .before .before .sub-shift .ensures, c5 .loop .inv .1, e, c6 .with-key .ensures, c7 .columns .ensures .1) refl
+    enciphers _ _ _ _ _ (c5 .loop .x) _ _ _ (c5 .loop .i) e (c7 .columns .ensures) (c6 .with-key .ensures) (c5 .loop .inv .1) (c .before .before .sub-shift .ensures)
+    (c .before .with-key2 .ensures) (c .bytes-of .ensures)
 
 pub encrypt-with-spec : {M : Type 1} → statement M
 encrypt-with-spec =

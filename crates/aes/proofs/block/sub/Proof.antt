@@ -1,5 +1,6 @@
 -- `aes::block::sub` meets its contract: row 1 of a word of the table.
-use Rattle.words.proofs.Words.{mixing-sub}
+use mathlib.Core.Path.{refl}
+use Rattle.aes.specs.ByTables.{subBy}
 use borrow.Author.Needs.{needs}
 use Rattle.aes.proofs.block.sub.Statement.{statement}
 use Rattle.aes.proofs.block.sub.Tie as tie
@@ -14,7 +15,14 @@ cast-result : tie.Need-cast-result
 cast-result c = search needs
 
 returns : tie.Need-returns
-returns c = rw (c .before .pre) (mixing-sub (c .before .args .x))
+unfolding subBy
+returns c = refl
 
 pub sub-spec : {M : Type 1} → statement M
-sub-spec = tie.close (tie.spec mul-result element-copy-out-result cast-result returns)
+sub-spec =
+    tie.close
+    (tie.spec
+    mul-result
+    element-copy-out-result
+    cast-result
+    returns)

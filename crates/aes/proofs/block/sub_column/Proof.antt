@@ -1,5 +1,6 @@
 -- `aes::block::sub_column` meets its contract: the definition, call by call.
-use Rattle.words.specs.Words.{pickedOf}
+use mathlib.Core.Path.{refl, _∙_}
+use Rattle.aes.specs.ByTables.{subColumn}
 use borrow.Author.Needs.{needs}
 use Rattle.aes.proofs.block.sub_column.Statement.{statement}
 use Rattle.aes.proofs.block.sub_column.Tie as tie
@@ -20,10 +21,18 @@ pack-requires : tie.Need-pack-requires
 pack-requires c κs = search needs
 
 returns : tie.Need-returns
-unfolding pickedOf
-returns c = cc
+unfolding subColumn
+returns c =
+    c .pack .ensures
+    ∙ rw (c .before .before .before .before .sub .ensures, c .before .before .before .sub2 .ensures, c .before .before .sub3 .ensures, c .before .sub4 .ensures) refl
 
 pub sub-column-spec : {M : Type 1} → statement M
 sub-column-spec =
     tie.close
-    (tie.spec sub-requires sub-requires-2 sub-requires-3 sub-requires-4 pack-requires returns)
+    (tie.spec
+    sub-requires
+    sub-requires-2
+    sub-requires-3
+    sub-requires-4
+    pack-requires
+    returns)

@@ -1,6 +1,7 @@
 -- `aes::block::with_key` meets its contract: four sums of words.
-use mathlib.Core.Path.{ap, _∙_}
+use mathlib.Core.Path.{refl, ap, _∙_}
 use Rattle.aes.specs.Block.{xorBlock}
+use Rattle.aes.specs.ByTables.{withKey}
 use Rattle.words.specs.Words.{blockOf}
 use Rattle.aes.proofs.Words.{sum-block}
 use borrow.Author.Needs.{needs}
@@ -35,7 +36,9 @@ array-read-t32 : tie.Need-array-read-t32
 array-read-t32 c = search needs
 
 returns : tie.Need-returns
-returns c = sum-block (c .before .args .t1) (c .columns .result) ∙ ap (xorBlock (blockOf (c .before .args .t1))) (c .columns .ensures .1)
+unfolding withKey
+returns c = let s = c .before .args .t1 in
+    (rw (← c .columns .ensures .0) refl, sum-block s (c .columns .result) ∙ ap (xorBlock (blockOf s)) (c .columns .ensures .1))
 
 pub with-key-spec : {M : Type 1} → statement M
 with-key-spec =

@@ -14,29 +14,17 @@ differs-requires c κs = search needs
 returns : tie.Need-returns
 returns c = search needs
 
-mul-is : tie.Need-mul-is
-mul-is c = search needs
+mul-compared-word : tie.Need-mul-compared-word
+mul-compared-word c = search needs
 
-slice-aggregate-is : tie.Need-slice-aggregate-is
-slice-aggregate-is c = simp length-take (omega arith)
+slice-aggregate-compared-word : tie.Need-slice-aggregate-compared-word
+slice-aggregate-compared-word c = simp length-take (omega arith)
 
-is-requires : tie.Need-is-requires
-is-requires c κs = search needs
+compared-word-requires : tie.Need-compared-word-requires
+compared-word-requires c κs = search needs
 
 returns-2 : tie.Need-returns-2
 returns-2 c = search needs
-
-mul-differs : tie.Need-mul-differs
-mul-differs c = search needs
-
-slice-aggregate-differs-2 : tie.Need-slice-aggregate-differs-2
-slice-aggregate-differs-2 c = simp length-take (omega arith)
-
-differs-requires-2 : tie.Need-differs-requires-2
-differs-requires-2 c κs = search needs
-
-returns-3 : tie.Need-returns-3
-returns-3 c = search needs
 
 pub same-front-spec : {M : Type 1} → statement M
 same-front-spec =
@@ -45,11 +33,7 @@ same-front-spec =
     slice-aggregate-differs
     differs-requires
     returns
-    mul-is
-    slice-aggregate-is
-    is-requires
-    returns-2
-    mul-differs
-    slice-aggregate-differs-2
-    differs-requires-2
-    returns-3)
+    mul-compared-word
+    slice-aggregate-compared-word
+    compared-word-requires
+    returns-2)

@@ -1,7 +1,7 @@
 -- `exchanges::by_hand::fresh` meets its contract.
 use mathlib.Core.Path.{ap, _∙_}
-use Rattle.state.specs.declared.Birth.{Birth}
-use Rattle.state.specs.Fresh.{born}
+use Rattle.delivery.specs.declared.Birth.{Birth}
+use Rattle.delivery.specs.Fresh.{born}
 use borrow.Author.Needs.{needs}
 use Rattle.exchanges.proofs.by_hand.fresh.Statement.{statement}
 use Rattle.exchanges.proofs.by_hand.fresh.Tie as tie

@@ -1,4 +1,4 @@
--- `exchanges::texts::end` meets its contract: `find` stays inside the line.
+-- `exchanges::texts::end` meets its contract: `find` stays inside the text.
 use Rattle.lines.proofs.Steps.{seek-from, seek-within}
 use borrow.Author.Needs.{needs}
 use native.Mathlib.Omega.{arith}
@@ -11,8 +11,8 @@ find-requires c κs = search needs
 returns : tie.Need-returns
 returns c =
     let a = c .before .before .args in
-    let e = seek-from (a .line .now) (a .at) 32 in
-    let f = seek-within (a .line .now) (a .at) 32 (c .before .before .pre) in
+    let e = seek-from (a .text .now) (a .at) (a .b) in
+    let f = seek-within (a .text .now) (a .at) (a .b) (c .before .before .pre) in
     (omega (arith, c .find .ensures), omega (arith, c .find .ensures))
 
 pub end-spec : {M : Type 1} → statement M

@@ -1,5 +1,6 @@
 -- `fields::fields::places` meets its contract.
-use Rattle.fields.specs.Fields.{placesIn}
+use mathlib.Core.Path.{ap, _∙_}
+use Rattle.fields.specs.Fields.{fields, placesOf, placesIn}
 use borrow.Author.Needs.{needs}
 use Rattle.fields.proofs.fields.places.Statement.{statement}
 use Rattle.fields.proofs.fields.places.Tie as tie
@@ -15,7 +16,9 @@ by-name-requires c κs = search needs
 
 returns : tie.Need-returns
 unfolding placesIn
-returns c = cc
+returns c =
+    let s = c .before .before .before .before .args .s .now in
+    c .by-name .ensures ∙ ap placesOf (c .before .numbers .ensures ∙ ap (λ x. fields s 6 x) (c .before .before .present-fields .ensures))
 
 pub places-spec : {M : Type 1} → statement M
 places-spec =

@@ -9,7 +9,7 @@ both-requires c κs = search needs
 
 returns : tie.Need-returns
 unfolding hasCounter
-returns c = cc
+returns c = c .both .ensures
 
 pub has-counter-spec : {M : Type 1} → statement M
 has-counter-spec = tie.close (tie.spec both-requires returns)

@@ -12,7 +12,7 @@ both-requires c κs = search needs
 
 returns : tie.Need-returns
 unfolding hasEnc
-returns c = cc
+returns c = simp (c .both .ensures, c .before .has-mac .ensures)
 
 pub has-enc-spec : {M : Type 1} → statement M
 has-enc-spec = tie.close (tie.spec has-mac-requires both-requires returns)

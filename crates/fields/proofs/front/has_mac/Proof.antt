@@ -12,7 +12,7 @@ both-requires c κs = search needs
 
 returns : tie.Need-returns
 unfolding hasMac
-returns c = cc
+returns c = simp (c .both .ensures, c .before .negate .ensures)
 
 pub has-mac-spec : {M : Type 1} → statement M
 has-mac-spec = tie.close (tie.spec negate-requires both-requires returns)

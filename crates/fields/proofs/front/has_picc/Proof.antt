@@ -9,7 +9,7 @@ both-requires c κs = search needs
 
 returns : tie.Need-returns
 unfolding hasPicc
-returns c = cc
+returns c = c .both .ensures
 
 pub has-picc-spec : {M : Type 1} → statement M
 has-picc-spec = tie.close (tie.spec both-requires returns)

@@ -9,7 +9,7 @@ both-requires c κs = search needs
 
 returns : tie.Need-returns
 unfolding hasUid
-returns c = cc
+returns c = c .both .ensures
 
 pub has-uid-spec : {M : Type 1} → statement M
 has-uid-spec = tie.close (tie.spec both-requires returns)

@@ -30,7 +30,17 @@ sdm-byte-requires-3 c κs = search needs
 
 returns : tie.Need-returns
 unfolding headOf
-returns c = cc
+returns c =
+    simp (
+      c .sdm-byte3 .ensures,
+      c .before .sdm-on .ensures,
+      c .before .before .mode-of .ensures,
+      c .before .before .before .at3 .ensures,
+      c .before .before .before .before .sdm-byte2 .ensures,
+      c .before .before .before .before .before .sdm-byte .ensures,
+      c .before .before .before .before .before .before .at2 .ensures,
+      c .before .before .before .before .before .before .before .at .ensures,
+    )
 
 pub head-spec : {M : Type 1} → statement M
 head-spec =

@@ -21,7 +21,14 @@ has-picc-requires c κs = search needs
 
 returns : tie.Need-returns
 unfolding present
-returns c = cc
+returns c =
+    simp (
+      c .has-picc .ensures,
+      c .before .has-counter .ensures,
+      c .before .before .has-uid .ensures,
+      c .before .before .before .has-enc .ensures,
+      c .before .before .before .before .has-mac .ensures,
+    )
 
 pub present-fields-spec : {M : Type 1} → statement M
 present-fields-spec =

@@ -1,10 +1,10 @@
 -- `messaging::protect::mac_over` meets its contract: three pieces at the front of the buffer.
 use lib.Seq.{length-take-le}
-use Rattle.aes.specs.Cmac.{mac}
+use Rattle.cmac.specs.Cmac.{mac}
 use Rattle.base.proofs.Pieces.{also}
 use Rattle.base.proofs.Bytes.{none, front}
 use Rattle.base.specs.Bytes.{low}
-use Rattle.aes.specs.Cmac.{cmac, evenPlaces}
+use Rattle.cmac.specs.Cmac.{cmac, evenPlaces}
 use native.Mathlib.Omega.{arith}
 use lib.ListN.{length}
 use mathlib.Core.Path.{_≡_, refl, ap₂, _∙_, sym}

@@ -1,6 +1,5 @@
 -- `plans::parts::expecting` meets its contract.
 use Rattle.plans.specs.Plan.{expectingBy}
-use mathlib.Core.Path.{_≡_, refl, sym, ap, ap₂, _∙_}
 use borrow.Author.Needs.{needs}
 use Rattle.plans.proofs.parts.expecting.Statement.{statement}
 use Rattle.plans.proofs.parts.expecting.Tie as tie

@@ -4,7 +4,7 @@ use Prim.Native.Nat.{_-_, _≤_, _<_}
 use lib.ListN.{length, drop, drop-of-length-le}
 use borrow.Author.Tests.{le-leb, lt-leb}
 use Rattle.plans.specs.Plan.{strayIn}
-use Rattle.plans.proofs.Tidying.{stray-step}
+use Rattle.plans.proofs.Long.{stray-step}
 use borrow.Author.Needs.{needs}
 use native.Mathlib.Omega.{arith}
 use Rattle.plans.proofs.parts.stray.Statement.{statement}

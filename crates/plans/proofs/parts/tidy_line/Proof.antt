@@ -1,11 +1,11 @@
 -- `plans::parts::tidy_line` meets its contract.
-use Rattle.plans.proofs.Tidying.{from-on}
+use Rattle.plans.proofs.Long.{from-on}
 use Rattle.plans.specs.Plan.{digitsOf, digitsRoom, expectingBy, plainLine, equals, lineOf, lineCommand, lineRandom, lineExpected}
 use lib.ListN.{length-take}
 use Prim.Native.Nat.{_+_}
 use native.Mathlib.Omega.{arith}
-use borrow.Author.Tests.{lt-ltb, le-ltb, eq-eqb, ne-eqb, le-leb, lt-leb}
-use mathlib.Core.Path.{_≡_, refl, sym, ap, ap₂, _∙_}
+use borrow.Author.Tests.{lt-ltb, le-ltb, le-leb, lt-leb}
+use mathlib.Core.Path.{refl, sym, ap, ap₂, _∙_}
 use borrow.Author.Needs.{needs}
 use Rattle.plans.proofs.parts.tidy_line.Statement.{statement}
 use Rattle.plans.proofs.parts.tidy_line.Tie as tie
@@ -102,7 +102,7 @@ returns-2 c =
                 (c .before .before .before .before .before .before .before .before .before .before .before .before .before .before .before .find .ensures),
             lt-ltb _ _
                 (c .before .before .before .before .before .before .before .before .before .before .before .before .before .before .if2 .taken),
-          ) (c .before .before .before .command-bytes .ensures .1 ∙ ap
+          ) (c .before .before .before .command-bytes .ensures .1 .0 ∙ ap
               (λ b. digitsRoom b (a .expected .now)) w),
         ),
       ),

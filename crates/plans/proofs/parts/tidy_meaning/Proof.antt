@@ -1,11 +1,12 @@
 -- `plans::parts::tidy_meaning` meets its contract.
-use Rattle.plans.proofs.Tidying.{from-on}
-use Rattle.plans.specs.Plan.{goodBytes, bytesRoom, givenBy, digitsOf, slash, meaningOf, commandRoom, randomRoom}
+use Rattle.plans.proofs.Long.{from-on}
+use Rattle.plans.specs.Plan.{givenBy, digitsOf, slash, meaningOf, commandRoom, randomRoom}
+use Rattle.first_lines.specs.Said.{goodBytes, bytesRoom}
 use lib.ListN.{length, take, length-take}
 use Prim.Native.Nat.{_+_}
 use native.Mathlib.Omega.{arith}
-use borrow.Author.Tests.{lt-ltb, le-ltb, eq-eqb, ne-eqb, le-leb, lt-leb}
-use mathlib.Core.Path.{_≡_, refl, sym, ap, ap₂, _∙_}
+use borrow.Author.Tests.{lt-ltb, le-ltb, eq-eqb, ne-eqb}
+use mathlib.Core.Path.{refl, sym, ap, _∙_}
 use borrow.Author.Needs.{needs}
 use Rattle.plans.proofs.parts.tidy_meaning.Statement.{statement}
 use Rattle.plans.proofs.parts.tidy_meaning.Tie as tie

@@ -1,5 +1,5 @@
 -- `plans::parts::wanted` meets its contract.
-use mathlib.Core.Path.{_≡_, refl, sym, ap, ap₂, _∙_}
+use mathlib.Core.Path.{refl}
 use borrow.Author.Needs.{needs}
 use Rattle.plans.proofs.parts.wanted.Statement.{statement}
 use Rattle.plans.proofs.parts.wanted.Tie as tie

@@ -31,7 +31,7 @@ returns c =
         sym (c10 .bytes-given .ensures .0)
             ∙ c .if1 .taken,
       ) refl,
-      (c6 .command-bytes .ensures .1, c10 .bytes-given .ensures .1),
+      (c6 .command-bytes .ensures .1 .0, c10 .bytes-given .ensures .1),
     )
 
 same-length-3 : tie.Need-same-length-3
@@ -45,7 +45,7 @@ returns-2 c =
     let c5 = c .before .before .before .before .before in
     let c9 = c5 .before .before .before .before in (
       rw (sym (c5 .command-bytes .ensures .0) ∙ c .before .d .given .1) refl,
-      (c5 .command-bytes .ensures .1, c9 .bytes-given .ensures .1),
+      (c5 .command-bytes .ensures .1 .0, c9 .bytes-given .ensures .1),
     )
 
 same-length-5 : tie.Need-same-length-5
@@ -63,7 +63,7 @@ returns-3 c =
         sym (c10 .bytes-given .ensures .0)
             ∙ c .if1 .left,
       ) refl,
-      (c6 .command-bytes .ensures .1, c10 .bytes-given .ensures .1),
+      (c6 .command-bytes .ensures .1 .0, c10 .bytes-given .ensures .1),
     )
 
 pub with-random-spec : {M : Type 1} → statement M

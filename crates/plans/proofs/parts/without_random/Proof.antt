@@ -17,13 +17,15 @@ same-length : tie.Need-same-length
 same-length c = search needs
 
 returns : tie.Need-returns
-returns c = (rw (sym (c .before .before .before .before .before .command-bytes .ensures .0) ∙ c .before .d .given .1) refl, c .before .before .before .before .before .command-bytes .ensures .1)
+returns c =
+    let k = c .before .before .before .before .before .command-bytes in (rw (sym (k .ensures .0) ∙ c .before .d .given .1) refl, k .ensures .1 .0)
 
 same-length-2 : tie.Need-same-length-2
 same-length-2 c = search needs
 
 returns-2 : tie.Need-returns-2
-returns-2 c = (rw (sym (c .before .before .before .before .before .command-bytes .ensures .0) ∙ c .before .d2 .given .1) refl, c .before .before .before .before .before .command-bytes .ensures .1)
+returns-2 c =
+    let k = c .before .before .before .before .before .command-bytes in (rw (sym (k .ensures .0) ∙ c .before .d2 .given .1) refl, k .ensures .1 .0)
 
 pub without-random-spec : {M : Type 1} → statement M
 without-random-spec =

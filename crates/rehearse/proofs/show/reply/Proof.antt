@@ -20,29 +20,8 @@ sub-n c = search needs
 status-of-requires : tie.Need-status-of-requires
 status-of-requires c κs = search needs
 
-slice-aggregate-say-2 : tie.Need-slice-aggregate-say-2
-slice-aggregate-say-2 c = search needs
-
-say-requires-2 : tie.Need-say-requires-2
-say-requires-2 c κs = search needs
-
-spaced-requires : tie.Need-spaced-requires
-spaced-requires c κs = search needs
-
-slice-aggregate-say-3 : tie.Need-slice-aggregate-say-3
-slice-aggregate-say-3 c = search needs
-
-say-requires-3 : tie.Need-say-requires-3
-say-requires-3 c κs = search needs
-
-name-requires : tie.Need-name-requires
-name-requires c κs = search needs
-
-slice-aggregate-say-4 : tie.Need-slice-aggregate-say-4
-slice-aggregate-say-4 c = search needs
-
-say-requires-4 : tie.Need-say-requires-4
-say-requires-4 c κs = search needs
+named-requires : tie.Need-named-requires
+named-requires c κs = search needs
 
 slice-aggregate-text-of : tie.Need-slice-aggregate-text-of
 slice-aggregate-text-of c = simp length-take (omega arith)
@@ -65,14 +44,7 @@ reply-spec =
     returns
     sub-n
     status-of-requires
-    slice-aggregate-say-2
-    say-requires-2
-    spaced-requires
-    slice-aggregate-say-3
-    say-requires-3
-    name-requires
-    slice-aggregate-say-4
-    say-requires-4
+    named-requires
     slice-aggregate-text-of
     text-of-requires
     settings-refused-requires

@@ -1,6 +1,6 @@
 -- `rehearse::walk::step` meets its contract.
-use Rattle.rehearse.proofs.Walking.{stepped-is}
-use Rattle.rehearse.specs.Steps.{Carried}
+use Rattle.turns.proofs.Acting.{stepped-is}
+use Rattle.turns.specs.Steps.{Carried}
 use lib.Seq.{take-all}
 use lib.ListN.{length, length-take}
 use Prim.Native.Nat.{ℕ}
@@ -45,7 +45,7 @@ carried-requires c κs = search needs
 returns : tie.Need-returns
 returns c =
     let l = c .before .before .before .before .before .before .before .before .line-meaning in
-    stepped-is _ _ (l .result) _ _ _ _ (l .ensures .0) (l .ensures .1 .0) (l .ensures .1 .1 .0) (l .ensures .1 .1 .1) (c .carried .ensures)
+    stepped-is _ _ (l .result) _ _ _ _ (l .ensures .told) (l .ensures .command) (l .ensures .random) (l .ensures .expected) (c .carried .ensures)
 
 slice-aggregate-carried-4 : tie.Need-slice-aggregate-carried-4
 slice-aggregate-carried-4 c = search needs
@@ -65,7 +65,7 @@ returns-2 c =
     let w = l .last .1 .1 .1 .0 in
     let k : length w ≡ 258 = search needs in
     let t = take-all (l .result .expected) w (omega (arith, c .before .before .before .before .if1 .left)) in
-    stepped-is _ _ (l .result) _ _ _ _ (l .ensures .0) (l .ensures .1 .0) (l .ensures .1 .1 .0) (l .ensures .1 .1 .1)
+    stepped-is _ _ (l .result) _ _ _ _ (l .ensures .told) (l .ensures .command) (l .ensures .random) (l .ensures .expected)
     (subst (λ (e : List ℕ). Carried (l .result .meaning)
     (c .before .before .before .before .before .before .before .before .before .before .before .before .before .args .tag)
     (l .last .1 .0) (l .last .1 .1 .0) e (c .carried2 .result)) (sym t) (c .carried2 .ensures))

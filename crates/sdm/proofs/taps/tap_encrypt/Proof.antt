@@ -4,7 +4,7 @@ use lib.ListN.{replicate}
 use Rattle.base.specs.Bytes.{low}
 use Rattle.sdm.specs.Tap.{tapIv}
 use Rattle.aes.specs.Block.{cipher}
-use Rattle.aes.specs.Cbc.{cbcOut, whole}
+use Rattle.cbc.specs.Cbc.{cbcOut, whole}
 use Rattle.base.specs.Decide.{pick}
 use mathlib.Core.Path.{refl, ap, ap₂, _∙_}
 use borrow.Author.Needs.{needs}

@@ -1,6 +1,6 @@
 -- `sdm::taps::tap_mac` meets its contract: as the definition has it.
-use Rattle.aes.specs.Cmac.{mac}
-use Rattle.aes.specs.Cmac.{cmac, evenPlaces}
+use Rattle.cmac.specs.Cmac.{mac}
+use Rattle.cmac.specs.Cmac.{cmac, evenPlaces}
 use mathlib.Core.Path.{ap, _∙_}
 use borrow.Author.Needs.{needs}
 use Rattle.sdm.proofs.taps.tap_mac.Statement.{statement}

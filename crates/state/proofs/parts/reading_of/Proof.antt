@@ -1,7 +1,7 @@
 -- `state::parts::reading_of` meets its contract.
 use mathlib.Core.Path.{ap, _∙_}
 use borrow.Author.Needs.{needs}
-use Rattle.fields.specs.Spans.{readingOf}
+use Rattle.spans.specs.Spans.{readingOf}
 use Rattle.fields.specs.Fields.{readOf}
 use Rattle.state.specs.State.{rulesOf, readingIn}
 use Rattle.state.proofs.parts.reading_of.Statement.{statement}

@@ -2,7 +2,7 @@
 use mathlib.Core.Path.{subst, _∙_}
 use borrow.Author.Needs.{needs}
 use Rattle.base.proofs.Bytes.{laid-whole}
-use Rattle.answer.specs.Answer.{Gives}
+use Rattle.replies.specs.Answer.{Gives}
 use Rattle.tag.specs.Call.{answered}
 use Rattle.tag.proofs.Calling.{replies}
 use Rattle.tag.proofs.entry.reply.Statement.{statement}

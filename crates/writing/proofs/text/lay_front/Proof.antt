@@ -5,7 +5,7 @@ use native.Mathlib.Omega.{arith}
 use lib.ListN.{length, take, length-take}
 use lib.Seq.{length-take-le}
 use borrow.Author.Tests.{le-leb, lt-leb}
-use Rattle.writing.proofs.Laying.{laid-front}
+use Rattle.normalising.proofs.Laying.{laid-front}
 use Rattle.writing.proofs.text.lay_front.Statement.{statement}
 use Rattle.writing.proofs.text.lay_front.Tie as tie
 

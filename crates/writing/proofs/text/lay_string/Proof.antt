@@ -8,7 +8,8 @@ use lib.ListN.{length, length-append}
 use Rattle.base.specs.Bytes.{over}
 use Rattle.fields.specs.Fields.{frontBytes, sdmBytes, present, listed, written}
 use Rattle.writing.proofs.Small.{mode-small, rights-small, sdm-small}
-use Rattle.writing.proofs.Laying.{laid-front, string-on, string-off, in-three}
+use Rattle.normalising.proofs.Laying.{laid-front}
+use Rattle.writing.proofs.Laying.{string-on, string-off, same-three, in-three}
 use Rattle.writing.proofs.text.lay_string.Statement.{statement}
 use Rattle.writing.proofs.text.lay_string.Tie as tie
 
@@ -64,7 +65,9 @@ returns c =
     let a = c .before .before .before .before .before .before .before .before in
     let b = a .before .before .before .before .before .before in
     let d = b .before .before .before in
-    let s = d .before .before .before .before .before .before .before .before in
+    let p = d .before .before .before in
+    let q = a .before .before .before in
+    let s = p .before .before .before .before .before in
     let r = s .args .r in
     let room = s .args .room .now in
     let w = written (present (r .head)) (listed (r .places)) in
@@ -75,8 +78,10 @@ returns c =
     let k : 6 + length w ≤ length room = omega (arith, n, lay .0 .1, s .pre .3) in (
       (n ∙ sym (ap length e ∙ simp length-append (omega arith)), lay .0 .1),
       in-three (frontBytes (r .head)) (sdmBytes (r .head)) w room refl refl k
-          (d .put .ensures ∙ cc)
-          (a .put2 .ensures ∙ cc)
+          (same-three (p .before .before .option-byte .ensures) (p .before .pair .ensures) (p .pair2 .ensures))
+          (same-three (q .before .before .sdm-options-byte .ensures) refl (q .pair3 .ensures))
+          (d .put .ensures)
+          (a .put2 .ensures)
           same
           (lay .1)
           ∙ ap (λ x. over x room) (sym e),
@@ -94,7 +99,7 @@ returns-2 c =
     let room = s .args .room .now in
     let e = string-off r (c .if1 .left) in
     let f = d .before .before .option-byte .result ∷ d .before .pair .result ∷ d .pair2 .result ∷ [] in
-    let same : f ≡ frontBytes (r .head) = cc in
+    let same : f ≡ frontBytes (r .head) = same-three (d .before .before .option-byte .ensures) (d .before .pair .ensures) (d .pair2 .ensures) in
     let put = c .before .before .before .put .ensures ∙ laid-front f room (omega arith) in
     ((sym (ap length e), omega arith), put ∙ ap (λ x. over x room) same ∙ ap (λ x. over x room) (sym e))
 

@@ -1,0 +1,14 @@
+use Rattle.access.specs.Access.{changeGrant}
+use borrow.Author.Needs.{needs}
+use Rattle.access.proofs.granting.change_grant.Statement.{statement}
+use Rattle.access.proofs.granting.change_grant.Tie as tie
+
+decide-requires : tie.Need-decide-requires
+decide-requires c κs = search needs
+
+returns : tie.Need-returns
+unfolding changeGrant
+returns c = c .decide .ensures
+
+pub change-grant-spec : {M : Type 1} → statement M
+change-grant-spec = tie.close (tie.spec decide-requires returns)

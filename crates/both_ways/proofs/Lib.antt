@@ -1,0 +1,3 @@
+pub mod Roundtrip
+pub mod KeptAgain
+pub mod Judged

@@ -1,0 +1,74 @@
+// Cipher block chaining over a lent buffer, in place (SP 800-38A, section 6.2).
+ghost use mathlib.Core.Path.{_≡_};
+ghost use Rattle.cbc.specs.Cbc.{blockAt, Chains, cbcOut, cbcBack};
+use aes::decrypt_with;
+use aes::encrypt_with;
+use aes::xor_block;
+
+// What chaining over a lent buffer came to.
+pub enum Chained {
+    // Every block was done.
+    Done,
+    // The length is no whole number of blocks: the buffer is as it was.
+    Ragged,
+}
+
+// The block that starts at an index; zeros where the slice ends before it does.
+pub fn load(s: &[u8], at: usize) -> [u8; 16]
+    ensures { λ r. ⌜ r ≡ blockAt (now (s .entry)) at ⌝ }
+{
+    let mut r = [0u8; 16];
+    if s.len() < 16 {
+        return r;
+    }
+    if s.len() - 16 < at {
+        return r;
+    }
+    base::put(&s[at..at + 16], &mut r, 0);
+    r
+}
+
+// Encrypts a buffer, from an initial vector.
+pub fn cbc_encrypt(w: &[[u8; 16]; 11], iv: [u8; 16], buf: &mut [u8]) -> Chained
+    ensures { λ r. ⌜ Chains (cbcOut (now (w .entry)) iv) (now (buf .entry)) r (now (buf .exit)) ⌝ }
+{
+    if buf.len() % 16 != 0 {
+        return Chained::Ragged;
+    }
+    let t = sbox::mixing();
+    let mut v = iv;
+    let mut at = 0;
+    let mut left = buf.len() / 16;
+    while 0 < left {
+        let p = load(buf, at);
+        let out = encrypt_with(&t, w, xor_block(p, v));
+        base::put(&out, buf, at);
+        v = out;
+        at += 16;
+        left -= 1;
+    }
+    Chained::Done
+}
+
+// Decrypts a buffer, from an initial vector.
+pub fn cbc_decrypt(w: &[[u8; 16]; 11], iv: [u8; 16], buf: &mut [u8]) -> Chained
+    ensures { λ r. ⌜ Chains (cbcBack (now (w .entry)) iv) (now (buf .entry)) r (now (buf .exit)) ⌝ }
+{
+    if buf.len() % 16 != 0 {
+        return Chained::Ragged;
+    }
+    let b = sbox::backward();
+    let u = sbox::unmixing();
+    let mut v = iv;
+    let mut at = 0;
+    let mut left = buf.len() / 16;
+    while 0 < left {
+        let c = load(buf, at);
+        let p = xor_block(decrypt_with(&b, &u, w, c), v);
+        base::put(&p, buf, at);
+        v = c;
+        at += 16;
+        left -= 1;
+    }
+    Chained::Done
+}

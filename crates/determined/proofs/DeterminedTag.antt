@@ -1,0 +1,233 @@
+-- Each public function of the floors from state to tag: its promise, as the source states it, determines the result and the lent
+-- room. An answer (Done) is determined up to the bytes behind its length. The other public function of crate tag is `fresh` of delivery.
+use mathlib.Core.Bool.{Bool}
+use mathlib.Core.List.{List}
+use mathlib.Core.Path.{_≡_}
+use Prim.Native.Nat.{ℕ, min}
+use lib.ListN.{take}
+use Rattle.fields.specs.declared.Head.{Head}
+use Rattle.spans.specs.declared.Reading.{Reading}
+use Rattle.messaging.specs.declared.Mode.{Mode}
+use Rattle.messaging.specs.declared.Session.{Session}
+use Rattle.state.specs.State.{endedOf, headIn, keyIn, noLive, noPending, quieted, readingIn, sizeOf, slotOf, startOf, stringAt, talking}
+use Rattle.state.specs.declared.Files.{Files}
+use Rattle.state.specs.declared.Live.{Live}
+use Rattle.state.specs.declared.Pending.{Pending}
+use Rattle.state.specs.declared.Tag.{Tag}
+use Rattle.state.specs.declared.Tapping.{Tapping}
+use Rattle.order.specs.Order.{formRight, frontStatus, hasData, headerLength, keyStatus, orderStatus}
+use Rattle.replies.specs.Answer.{Gives, accepted, afterwards, given, refusal, sessionOf, usedUp}
+use Rattle.replies.specs.declared.Done.{Done}
+use Rattle.replies.specs.declared.Part.{Part}
+use Rattle.auth.specs.Parts.{partOneFirst, partOneNext, roomGiven}
+use Rattle.keyring.specs.Keyring.{changedKey, keyVersion}
+use Rattle.details.specs.Details.{cardUid, fileCounters, fileSettings}
+use Rattle.file_parts.specs.Filing.{partOf, stored, storedIso, withBytes}
+use Rattle.taps.specs.Taps.{isTap, shown, tapRead}
+use Rattle.taps.specs.declared.Shown.{Shown}
+use Rattle.contents.specs.Contents.{readData, writtenData}
+use Rattle.selects.specs.Selects.{selected}
+use Rattle.access.specs.Access.{accessFor, readGrant, writeGrant}
+use Rattle.access.specs.declared.Access.{Access}
+use Rattle.access.specs.declared.Grant.{Grant}
+use Rattle.binaries.specs.Binaries.{readBinary, updatedBinary}
+use Rattle.delivery.specs.Fresh.{Births}
+use Rattle.delivery.specs.declared.Birth.{Birth}
+use Rattle.inter_industry.specs.InterIndustry.{interIndustry}
+use Rattle.soundness.specs.Sound.{soundTag}
+use Rattle.change_settings.specs.ChangeSettings.{changedSettings}
+use Rattle.part_two.specs.PartTwo.{partTwoAnswer}
+use Rattle.wrapped.specs.Wrapped.{wrapped}
+use Rattle.tag.specs.Call.{Calls}
+use Rattle.tag.specs.declared.Called.{Called}
+use Rattle.determined.specs.Determining.{Determined, DeterminedIn, DeterminedText}
+use Rattle.determined.proofs.Determined.{once, calls-once, births-once, gives-once}
+
+-- ---- state
+pub ended-determined : (tag : Tag) → Determined (λ (r : Tag). r ≡ endedOf tag)
+ended-determined tag = once
+
+pub file-size-determined : (n : ℕ) → Determined (λ (r : ℕ). r ≡ sizeOf n)
+file-size-determined n = once
+
+pub file-start-determined : (n : ℕ) → Determined (λ (r : ℕ). r ≡ startOf n)
+file-start-determined n = once
+
+pub head-of-determined : (rules lens : List ℕ) (n : ℕ) → Determined (λ (r : Head). r ≡ headIn rules lens n)
+head-of-determined rules lens n = once
+
+pub key-of-determined : (keys : List ℕ) (k : ℕ) → Determined (λ (r : List ℕ). r ≡ keyIn keys k)
+key-of-determined keys k = once
+
+pub no-live-determined : Determined (λ (r : Live). r ≡ noLive)
+no-live-determined = once
+
+pub no-pending-determined : Determined (λ (r : Pending). r ≡ noPending)
+no-pending-determined = once
+
+pub quiet-determined : (t : Tapping) → Determined (λ (r : Tapping). r ≡ quieted t)
+quiet-determined t = once
+
+pub reading-of-determined : (f : Files) (n : ℕ) → Determined (λ (r : Reading). r ≡ readingIn f n)
+reading-of-determined f n = once
+
+pub slot-of-determined : (n : ℕ) → Determined (λ (r : ℕ). r ≡ slotOf n)
+slot-of-determined n = once
+
+pub string-in-determined : (rules lens : List ℕ) (n : ℕ) → Determined (λ (r : List ℕ). r ≡ stringAt rules lens n)
+string-in-determined rules lens n = once
+
+-- ---- order
+pub form-right-determined : (c : List ℕ) → Determined (λ (r : Bool). r ≡ formRight c)
+form-right-determined c = once
+
+pub order-status-determined : (ins p1 p2 : ℕ) (pending : Bool) → Determined (λ (r : ℕ). r ≡ orderStatus ins p1 p2 pending)
+order-status-determined ins p1 p2 pending = once
+
+pub header-length-determined : (ins : ℕ) → Determined (λ (r : ℕ). r ≡ headerLength ins)
+header-length-determined ins = once
+
+pub has-data-determined : (ins : ℕ) → Determined (λ (r : Bool). r ≡ hasData ins)
+has-data-determined ins = once
+
+pub key-status-determined : (k : ℕ) → Determined (λ (r : ℕ). r ≡ keyStatus k)
+key-status-determined k = once
+
+pub front-status-determined : (ins : ℕ) (x : List ℕ) (application : Bool) → Determined (λ (r : ℕ). r ≡ frontStatus ins x application)
+front-status-determined ins x application = once
+
+-- ---- replies
+pub smaller-determined : (a b : ℕ) → Determined (λ (r : ℕ). r ≡ min a b)
+smaller-determined a b = once
+
+pub refuse-determined : (tag : Tag) (status : ℕ) → DeterminedText (λ (r : Done). Gives (refusal tag status) r)
+refuse-determined tag status = gives-once
+
+pub give-determined : (tag : Tag) (status : ℕ) (bytes : List ℕ) (n : ℕ)
+    → DeterminedText (λ (r : Done). Gives (given tag status (take (min n 256) bytes)) r)
+give-determined tag status bytes n = gives-once
+
+pub used-up-determined : (on : Bool) (counter : ℕ) → Determined (λ (r : Bool). r ≡ usedUp on counter)
+used-up-determined on counter = once
+
+pub session-of-determined : (l : Live) → Determined (λ (r : Session). r ≡ sessionOf l)
+session-of-determined l = once
+
+pub after-determined : (tag : Tag) → Determined (λ (r : Tag). r ≡ afterwards tag)
+after-determined tag = once
+
+pub accept-determined : (tag : Tag) (m : Mode) (bytes : List ℕ) (n : ℕ)
+    → DeterminedText (λ (r : Done). Gives (accepted tag m (take (min n 256) bytes)) r)
+accept-determined tag m bytes n = gives-once
+
+-- ---- auth
+pub talking-determined : (tag : Tag) (l : Live) (p : Pending) → Determined (λ (r : Tag). r ≡ talking tag l p)
+talking-determined tag l p = once
+
+pub reply-determined : (tag : Tag) (status : ℕ) (e : List ℕ) → DeterminedText (λ (r : Done). Gives (roomGiven tag status e) r)
+reply-determined tag status e = gives-once
+
+pub first-determined : (tag : Tag) (x random : List ℕ) → DeterminedText (λ (r : Done). Gives (partOneFirst tag x random) r)
+first-determined tag x random = gives-once
+
+pub next-determined : (tag : Tag) (x random : List ℕ) → DeterminedText (λ (r : Done). Gives (partOneNext tag x random) r)
+next-determined tag x random = gives-once
+
+-- ---- keyring
+pub change-key-determined : (tag : Tag) (k : ℕ) (p : List ℕ) → DeterminedText (λ (r : Done). Gives (changedKey tag k p) r)
+change-key-determined tag k p = gives-once
+
+pub key-version-determined : (tag : Tag) (k : ℕ) (m : Mode) → DeterminedText (λ (r : Done). Gives (keyVersion tag k m) r)
+key-version-determined tag k m = gives-once
+
+-- ---- details
+pub card-uid-determined : (tag : Tag) → DeterminedText (λ (r : Done). Gives (cardUid tag) r)
+card-uid-determined tag = gives-once
+
+pub file-settings-determined : (tag : Tag) (n : ℕ) (m : Mode) → DeterminedText (λ (r : Done). Gives (fileSettings tag n m) r)
+file-settings-determined tag n m = gives-once
+
+pub file-counters-determined : (tag : Tag) (m : Mode) → DeterminedText (λ (r : Done). Gives (fileCounters tag m) r)
+file-counters-determined tag m = gives-once
+
+-- ---- file_parts
+pub cut-determined : (text : List ℕ) (at count : ℕ) → Determined (λ (r : Part). r ≡ partOf text at count)
+cut-determined text at count = once
+
+pub read-stored-determined : (tag : Tag) (m : Mode) (n at count : ℕ) → DeterminedText (λ (r : Done). Gives (stored tag m n at count) r)
+read-stored-determined tag m n at count = gives-once
+
+pub read-stored-iso-determined : (tag : Tag) (n at count : ℕ) → DeterminedText (λ (r : Done). Gives (storedIso tag n at count) r)
+read-stored-iso-determined tag n at count = gives-once
+
+pub with-bytes-determined : (f : Files) (n at : ℕ) (p : List ℕ) → Determined (λ (r : Files). r ≡ withBytes f n at p)
+with-bytes-determined f n at p = once
+
+-- ---- taps
+pub is-tap-determined : (sdm live : Bool) → Determined (λ (r : Bool). r ≡ isTap sdm live)
+is-tap-determined sdm live = once
+
+pub read-tap-determined : (tag : Tag) (s : Shown) (accepting refusing at count : ℕ)
+    → DeterminedText (λ (r : Done). Gives (tapRead tag s accepting refusing at count) r)
+read-tap-determined tag s accepting refusing at count = gives-once
+
+pub show-determined : (tag : Tag) (r : Reading) (iso : Bool) (random : List ℕ) → Determined (λ (s : Shown). s ≡ shown tag r iso random)
+show-determined tag r iso random = once
+
+-- ---- contents
+pub read-data-determined : (tag : Tag) (n : ℕ) (x : List ℕ) (m : Mode) (random : List ℕ)
+    → DeterminedText (λ (r : Done). Gives (readData tag n x m random) r)
+read-data-determined tag n x m random = gives-once
+
+pub write-data-determined : (tag : Tag) (n : ℕ) (x p : List ℕ) (m : Mode) → DeterminedText (λ (r : Done). Gives (writtenData tag n x p m) r)
+write-data-determined tag n x p m = gives-once
+
+-- ---- selects
+pub select-determined : (tag : Tag) (p1 p2 : ℕ) (d : List ℕ) → DeterminedText (λ (r : Done). Gives (selected tag p1 p2 d) r)
+select-determined tag p1 p2 d = gives-once
+
+-- ---- access
+pub access-for-determined : (ins : ℕ) (l : Live) (h : Head) → Determined (λ (r : Access). r ≡ accessFor ins l h)
+access-for-determined ins l h = once
+
+pub read-grant-determined : (l : Live) (h : Head) → Determined (λ (r : Grant). r ≡ readGrant l h)
+read-grant-determined l h = once
+
+pub write-grant-determined : (l : Live) (h : Head) → Determined (λ (r : Grant). r ≡ writeGrant l h)
+write-grant-determined l h = once
+
+-- ---- binaries
+pub read-binary-determined : (tag : Tag) (at le : ℕ) (random : List ℕ) → DeterminedText (λ (r : Done). Gives (readBinary tag at le random) r)
+read-binary-determined tag at le random = gives-once
+
+pub update-binary-determined : (tag : Tag) (at : ℕ) (d : List ℕ) → DeterminedText (λ (r : Done). Gives (updatedBinary tag at d) r)
+update-binary-determined tag at d = gives-once
+
+-- ---- delivery
+pub fresh-determined : (uid : List ℕ) → Determined (λ (r : Birth). Births uid r)
+fresh-determined uid = births-once
+
+-- ---- inter_industry
+pub inter-industry-determined : (tag : Tag) (c random : List ℕ) → DeterminedText (λ (r : Done). Gives (interIndustry tag c random) r)
+inter-industry-determined tag c random = gives-once
+
+-- ---- soundness
+pub sound-determined : (t : Tag) → Determined (λ (r : Bool). r ≡ soundTag t)
+sound-determined t = once
+
+-- ---- change_settings
+pub change-settings-determined : (tag : Tag) (n : ℕ) (p : List ℕ) (m : Mode) → DeterminedText (λ (r : Done). Gives (changedSettings tag n p m) r)
+change-settings-determined tag n p m = gives-once
+
+-- ---- part_two
+pub second-determined : (tag : Tag) (x random : List ℕ) → DeterminedText (λ (r : Done). Gives (partTwoAnswer tag x random) r)
+second-determined tag x random = gives-once
+
+-- ---- wrapped
+pub wrapped-determined : (tag : Tag) (c random : List ℕ) → DeterminedText (λ (r : Done). Gives (wrapped tag c random) r)
+wrapped-determined tag c random = gives-once
+
+-- ---- tag
+pub call-determined : (tag : Tag) (command random room : List ℕ)
+    → DeterminedIn (λ (r : Called) (new : List ℕ). Calls tag command random room r new)
+call-determined tag command random room = calls-once

@@ -1,0 +1,4 @@
+pub mod Determined
+pub mod DeterminedFloors
+pub mod DeterminedTag
+pub mod DeterminedStand

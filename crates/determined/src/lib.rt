@@ -1,0 +1,1 @@
+// Theorems: the promise of each public function determines its result. No code.

@@ -1,0 +1,27 @@
+// From an image to the state that it holds.
+ghost use mathlib.Core.Path.{_≡_};
+ghost use Rattle.image.specs.Answers.{readIn};
+use image::Found;
+use image::Read;
+
+mod parts;
+
+// The state that an image holds. Whether it is sound, `soundness::sound` judges.
+pub fn from_image(s: &[u8]) -> Read
+    ensures { λ r. ⌜ r ≡ readIn (now (s .entry)) ⌝ }
+{
+    if s.len() != 672 {
+        return parts::refused(Found::WrongLength);
+    }
+    if base::at(s, 0) != 1 {
+        return parts::refused(Found::WrongVersion);
+    }
+    if parts::bits_right(s) {
+        let tag = parts::tag_in(s);
+        return Read {
+            found: Found::Whole,
+            tag,
+        };
+    }
+    parts::refused(Found::NotABoolean)
+}

@@ -1,2 +1,0 @@
-pub mod Border
-pub mod Judged

@@ -1,0 +1,19 @@
+// From a state to its image.
+ghost use mathlib.Core.Path.{_≡_};
+ghost use Rattle.image.specs.Answers.{storedIn, imageIn};
+use image::Stored;
+use state::Tag;
+
+mod parts;
+
+// The image of a state over 672 lent bytes. Any other length is left as it is.
+pub fn to_image(tag: Tag, s: &mut [u8]) -> Stored
+    ensures answer { λ r. ⌜ r ≡ storedIn (now (s .entry)) ⌝ }
+    ensures left { λ _. ⌜ now (s .exit) ≡ imageIn tag (now (s .entry)) ⌝ }
+{
+    if s.len() != 672 {
+        return Stored::OtherLength;
+    }
+    parts::lay_image(tag, s);
+    Stored::Written
+}

@@ -1,0 +1,121 @@
+// What a line of a plan does to the tag, and what is said of it.
+ghost use mathlib.Core.Path.{_≡_};
+ghost use Prim.Native.Nat.{_≤_};
+ghost use lib.ListN.{take};
+ghost use Rattle.turns.specs.Steps.{wentBy, stays};
+ghost use Rattle.turns.specs.Acts.{playedAs, silent, drawnBy, actedBy};
+use plans::Meaning;
+use state::Tag;
+
+// What a line did: a command was played, its reply refused; the line was skipped, since the machine gave no random bytes; it expected
+// something, and the reply was not that.
+pub struct Went {
+    pub played: bool,
+    pub refused: bool,
+    pub skipped: bool,
+    pub undrawn: bool,
+    pub expecting: bool,
+    pub unmet: bool,
+}
+
+// The tag behind a line.
+pub struct Turn {
+    pub tag: Tag,
+    pub went: Went,
+}
+
+// A turn, and the reply: as many first bytes of the room.
+pub struct Acted {
+    pub turn: Turn,
+    pub length: usize,
+    pub room: [u8; 258],
+}
+
+// What is said of a command that was played, by its reply and what was expected of it.
+fn told(reply: &[u8], expected: &[u8]) -> Went
+    ensures { λ r. ⌜ r ≡ wentBy (now (reply .entry)) (now (expected .entry)) ⌝ }
+{
+    let refused = verdict::refuses(verdict::status_of(reply));
+    let unmet = verdict::differs(expected, reply);
+    let expecting = 0 < expected.len();
+    Went {
+        played: true,
+        refused,
+        skipped: false,
+        undrawn: false,
+        expecting,
+        unmet,
+    }
+}
+
+// A command is played.
+fn play(tag: Tag, command: &[u8], random: &[u8], expected: &[u8]) -> Acted
+    ensures told { λ r. ⌜ r ≡ playedAs tag (now (command .entry)) (now (random .entry)) (now (expected .entry)) ⌝ }
+    ensures short { λ r. ⌜ r .length ≤ 258 ⌝ }
+{
+    let mut room = [0u8; 258];
+    let d = tag::call(tag, command, random, &mut room);
+    let t = d.tag;
+    let length = d.length;
+    let went = told(&room[..length], expected);
+    let turn = Turn { tag: t, went };
+    Acted { turn, length, room }
+}
+
+// Plays the first n bytes of a command.
+fn front(tag: Tag, n: usize, c: &[u8], x: &[u8], e: &[u8]) -> Acted
+    ensures told { λ r. ⌜ r ≡ playedAs tag (take n (now (c .entry))) (now (x .entry)) (now (e .entry)) ⌝ }
+    ensures short { λ r. ⌜ r .length ≤ 258 ⌝ }
+{
+    if n < c.len() {
+        return play(tag, &c[..n], x, e);
+    }
+    play(tag, c, x, e)
+}
+
+// A line that does nothing: it is blank, or skipped, or skipped since the machine gave no random bytes.
+fn still(tag: Tag, skipped: bool, undrawn: bool) -> Acted
+    ensures told { λ r. ⌜ r ≡ silent (stays tag skipped undrawn) ⌝ }
+    ensures short { λ r. ⌜ r .length ≤ 258 ⌝ }
+{
+    let went = Went {
+        played: false,
+        refused: false,
+        skipped,
+        undrawn,
+        expecting: false,
+        unmet: false,
+    };
+    let turn = Turn { tag, went };
+    let room = [0u8; 258];
+    Acted {
+        turn,
+        length: 0,
+        room,
+    }
+}
+
+// A command without random bytes of its own takes the machine's, where they are 20; else the tag is left as it is.
+fn drawn(tag: Tag, n: usize, c: &[u8], d: &[u8], e: &[u8]) -> Acted
+    ensures told { λ r. ⌜ r ≡ drawnBy n tag (now (c .entry)) (now (e .entry)) (now (d .entry)) ⌝ }
+    ensures short { λ r. ⌜ r .length ≤ 258 ⌝ }
+{
+    if d.len() == 20 {
+        return front(tag, n, c, d, e);
+    }
+    still(tag, true, true)
+}
+
+// What a line asks for is done: the command is the first bytes of c, x are the random bytes that it brings, e is what it expects, and d
+// are the machine's random bytes.
+pub fn carry_out(tag: Tag, m: Meaning, c: &[u8], x: &[u8], e: &[u8], d: &[u8]) -> Acted
+    ensures told { λ r. ⌜ r ≡ actedBy m tag (now (c .entry)) (now (x .entry)) (now (e .entry)) (now (d .entry)) ⌝ }
+    ensures short { λ r. ⌜ r .length ≤ 258 ⌝ }
+{
+    match m {
+        Meaning::Blank => still(tag, false, false),
+        Meaning::Bad(_) => still(tag, true, false),
+        Meaning::Drawn(n) => drawn(tag, n, c, d, e),
+        Meaning::Given(n) => front(tag, n, c, x, e),
+    }
+}
