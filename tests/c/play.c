@@ -1,55 +1,9 @@
 /* Plays a log through the image, with mainspur.h alone: a UID, then command, reply and random bytes, a line of hexadecimal
  * each, on standard input. Before the first exchange and after the last it tries every refusal, and that image and room
  * stay; before the log it judges stored lengths and plays part two on images with a counter in the pending part. Prints what differs, and last 'N exchanges, M differ'; the status is 1 where something differs. */
-#include "mainspur.h"
+#include "border.h"
 
-/* of the C library */
-long read(int file, void *to, mainspur_size n);
-long write(int file, const void *from, mainspur_size n);
-
-typedef unsigned char byte;
-
-enum { IMAGE = MAINSPUR_IMAGE_LENGTH, BIG = 300, TEXT = 1 << 20 };
-
-static byte text[TEXT];
-static mainspur_size text_length, at;
-static unsigned long differ;
-
-static mainspur_size length_of(const char *s) {
-    mainspur_size n = 0;
-    while (s[n]) n++;
-    return n;
-}
-
-static void print(const char *s) {
-    mainspur_size n = length_of(s);
-    if (write(1, s, n) != (long)n) differ++;
-}
-
-static void print_number(unsigned long n) {
-    char digits[24];
-    int i = 23;
-    digits[i] = 0;
-    do {
-        digits[--i] = (char)('0' + n % 10);
-        n /= 10;
-    } while (n);
-    print(digits + i);
-}
-
-static int same(const byte *a, const byte *b, mainspur_size n) {
-    for (mainspur_size i = 0; i < n; i++)
-        if (a[i] != b[i]) return 0;
-    return 1;
-}
-
-static void copy(byte *to, const byte *from, mainspur_size n) {
-    for (mainspur_size i = 0; i < n; i++) to[i] = from[i];
-}
-
-static void fill(byte *to, byte b, mainspur_size n) {
-    for (mainspur_size i = 0; i < n; i++) to[i] = b;
-}
+static mainspur_size at;
 
 static void expect(int right, const char *what) {
     if (right) return;
@@ -57,13 +11,6 @@ static void expect(int right, const char *what) {
     print("differs: ");
     print(what);
     print("\n");
-}
-
-static int digit(byte c) {
-    if (c >= '0' && c <= '9') return c - '0';
-    if (c >= 'A' && c <= 'F') return c - 'A' + 10;
-    if (c >= 'a' && c <= 'f') return c - 'a' + 10;
-    return -1;
 }
 
 /* The bytes of the next line, at most room of them; -1 at the end of the text or where a line is no hexadecimal. */
@@ -205,7 +152,7 @@ int main(void) {
     byte uid[16], image[IMAGE], command[BIG], reply[BIG], random[BIG], room[BIG], blank[BIG];
     unsigned long exchanges = 0, wrong = 0;
     long n;
-    while (text_length < TEXT && (n = read(0, text + text_length, TEXT - text_length)) > 0) text_length += (mainspur_size)n;
+    int whole = read_text(0);
     fresh_refusals();
     settings_strings();
     stored_lengths();
@@ -228,7 +175,7 @@ int main(void) {
         print_number(exchanges);
         print("\n");
     }
-    expect(at >= text_length && text_length < TEXT, "the log was not read to its end");
+    expect(at >= text_length && whole, "the log was not read to its end");
     call_refusals(image);
     print_number(exchanges);
     print(" exchanges, ");

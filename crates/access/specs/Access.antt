@@ -5,6 +5,7 @@ use lib.Dec.{eqb, leb}
 use Rattle.base.specs.Decide.{pick, and, or}
 use Rattle.messaging.specs.declared.Mode.{Mode}
 use Rattle.messaging.specs.declared.Mode.the-variants.{Plain, Mac, Full}
+use Rattle.messaging.specs.Protect.{modeNumber}
 use Rattle.fields.specs.declared.Head.{Head}
 use Rattle.state.specs.declared.Live.{Live}
 use Rattle.access.specs.declared.Grant.{Grant}
@@ -39,9 +40,9 @@ changeGrant l h = granted (l .on) (l .key) (h .change) (h .change) 15
 unfoldable pub counterGrant : Live → Head → Grant
 counterGrant l h = pick (h .sdm) (granted (l .on) (l .key) (h .ret) (h .ret) 15) Never
 
--- the mode of a file: 1 MAC, 3 Full
+-- the mode of a file, by the numbers of MAC and Full; any other number is Plain
 unfoldable pub fileMode : ℕ → Mode
-fileMode m = pick (eqb m 1) Mac (pick (eqb m 3) Full Plain)
+fileMode m = pick (eqb m (modeNumber Mac)) Mac (pick (eqb m (modeNumber Full)) Full Plain)
 
 -- a key grants in the given mode, E and the tap rule in Plain
 abbrev pub inMode : Grant → Mode → Access

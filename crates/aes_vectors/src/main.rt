@@ -1,26 +1,26 @@
 // Runs AES-128 vectors of standard input, one a line, '-' for nothing: KEYS NAME KEY ROUND-KEYS, ECB NAME KEY PLAIN CIPHER,
 // CBC NAME KEY IV PLAIN CIPHER, CMAC NAME KEY MESSAGE TAG, and CMACBAD NAME KEY MESSAGE TAG, whose tag must not match.
 // Prints each that differs, by its name and with ours, and then the totals. The vectors at the end are wrong on purpose.
+mod line_words;
 mod run;
-mod words;
 
 use libc::STDOUT_FILENO;
 
 // The kind of a line, as the place where it is counted, 7 for none of these; all are counted at 0, those that differ at 1.
 fn kind_of(line: &[u8]) -> usize {
-    if words::is(line, 0, b"KEYS") {
+    if line_words::is(line, 0, b"KEYS") {
         return 2;
     }
-    if words::is(line, 0, b"ECB") {
+    if line_words::is(line, 0, b"ECB") {
         return 3;
     }
-    if words::is(line, 0, b"CBC") {
+    if line_words::is(line, 0, b"CBC") {
         return 4;
     }
-    if words::is(line, 0, b"CMAC") {
+    if line_words::is(line, 0, b"CMAC") {
         return 5;
     }
-    if words::is(line, 0, b"CMACBAD") {
+    if line_words::is(line, 0, b"CMACBAD") {
         return 6;
     }
     7
@@ -33,15 +33,15 @@ fn agrees_under(w: &[[u8; 16]; 11], kind: usize, line: &[u8]) -> bool {
         4 => run::cbc(w, line),
         5 => run::cmac(w, line, true),
         6 => run::cmac(w, line, false),
-        _ => words::differs(line, b"no such kind"),
+        _ => line_words::differs(line, b"no such kind"),
     }
 }
 
 // Whether a vector agrees.
 fn agrees(kind: usize, line: &[u8]) -> bool {
     let mut key = [0u8; 16];
-    if words::field(line, 2, &mut key) != 16 {
-        return words::differs(line, b"no key");
+    if line_words::field(line, 2, &mut key) != 16 {
+        return line_words::differs(line, b"no key");
     }
     let w = key_expansion::expand(key);
     agrees_under(&w, kind, line)
@@ -98,7 +98,7 @@ fn run_all(text: &[u8]) {
     let mut n = [0u64; 8];
     let mut at = 0;
     while at < text.len() {
-        let end = words::end(text, at, b'\n');
+        let end = line_words::end(text, at, b'\n');
         let m = counted(n, &text[at..end]);
         n = m;
         at = end + 1;

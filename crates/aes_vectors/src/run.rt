@@ -1,5 +1,5 @@
 // Each kind of vector, with the round keys of its key.
-use crate::words;
+use crate::line_words;
 
 // Whether bytes of ours are a word of the line; else they are printed.
 fn same(line: &[u8], k: usize, ours: &[u8]) -> bool {
@@ -11,9 +11,9 @@ fn same(line: &[u8], k: usize, ours: &[u8]) -> bool {
 // The same of the digits of n bytes, at the front of a room.
 fn same_front(line: &[u8], k: usize, room: &[u8], n: usize) -> bool {
     if room.len() / 2 < n {
-        return words::differs(line, b"too long");
+        return line_words::differs(line, b"too long");
     }
-    words::compared_word(line, k, &room[..n * 2])
+    line_words::compared_word(line, k, &room[..n * 2])
 }
 
 fn lay_one(k: [u8; 16], room: &mut [u8], at: usize) {
@@ -91,9 +91,9 @@ fn comes_out(w: &[[u8; 16]; 11], way: Way, line: &[u8], buf: &mut [u8], to: usiz
 // Whether one word of the line gives another.
 fn gives(w: &[[u8; 16]; 11], way: Way, line: &[u8], from: usize, to: usize) -> bool {
     let mut room = [0u8; 256];
-    let n = words::field(line, from, &mut room);
+    let n = line_words::field(line, from, &mut room);
     if room.len() < n {
-        return words::differs(line, b"no digits");
+        return line_words::differs(line, b"no digits");
     }
     comes_out(w, way, line, &mut room[..n], to)
 }
@@ -123,8 +123,8 @@ pub fn ecb(w: &[[u8; 16]; 11], line: &[u8]) -> bool {
 
 pub fn cbc(w: &[[u8; 16]; 11], line: &[u8]) -> bool {
     let mut iv = [0u8; 16];
-    if words::field(line, 3, &mut iv) != 16 {
-        return words::differs(line, b"no initial vector");
+    if line_words::field(line, 3, &mut iv) != 16 {
+        return line_words::differs(line, b"no initial vector");
     }
     ciphers(w, true, iv, line, 4)
 }
@@ -132,10 +132,10 @@ pub fn cbc(w: &[[u8; 16]; 11], line: &[u8]) -> bool {
 // The tag of a message is not the line's.
 fn tag_is_not(tag: [u8; 16], line: &[u8]) -> bool {
     let mut theirs = [0u8; 16];
-    if words::field(line, 4, &mut theirs) != 16 {
-        return words::differs(line, b"no tag");
+    if line_words::field(line, 4, &mut theirs) != 16 {
+        return line_words::differs(line, b"no tag");
     }
-    words::unlike(line, &theirs, &tag)
+    line_words::unlike(line, &theirs, &tag)
 }
 
 // The tag of a message is the line's, or, where it must not be, is not.
@@ -149,9 +149,9 @@ fn tag_agrees(w: &[[u8; 16]; 11], line: &[u8], message: &[u8], good: bool) -> bo
 
 pub fn cmac(w: &[[u8; 16]; 11], line: &[u8], good: bool) -> bool {
     let mut room = [0u8; 256];
-    let n = words::field(line, 3, &mut room);
+    let n = line_words::field(line, 3, &mut room);
     if room.len() < n {
-        return words::differs(line, b"no digits");
+        return line_words::differs(line, b"no digits");
     }
     tag_agrees(w, line, &room[..n], good)
 }

@@ -3,7 +3,7 @@
 mod file_settings;
 mod key_changes;
 mod mutual;
-mod taps;
+mod tap_values;
 
 ghost use mathlib.Core.Path.{_≡_};
 ghost use Rattle.an12196.specs.Counts.{countedOf};
@@ -237,7 +237,7 @@ fn random_of(padding: &[u8]) -> [u8; 20] {
 
 fn tap_one() -> Tap {
     Tap {
-        uid: taps::UID_ONE,
+        uid: tap_values::UID_ONE,
         counter: 61,
         names: true,
         counts: true,
@@ -245,21 +245,26 @@ fn tap_one() -> Tap {
 }
 
 fn first_picc_data(t: Tally) -> Tally {
-    let picc = sdm::picc_data([0u8; 16], tap_one(), random_of(&taps::PADDING_ONE));
-    compare(t, b"PICCData of the first tap", &picc, &taps::PICC_ONE)
+    let picc = sdm::picc_data([0u8; 16], tap_one(), random_of(&tap_values::PADDING_ONE));
+    compare(
+        t,
+        b"PICCData of the first tap",
+        &picc,
+        &tap_values::PICC_ONE,
+    )
 }
 
 fn first_mac(t: Tally) -> Tally {
     let keys = sdm::tap_keys([0u8; 16], tap_one());
     let key = keys.mac;
     let mac = sdm::tap_mac(key, &[0u8; 0]);
-    let t1 = compare(t, b"SesSDMFileReadMACKey", &key, &taps::MAC_KEY_ONE);
-    compare(t1, b"SDMMAC of the first tap", &mac, &taps::MAC_ONE)
+    let t1 = compare(t, b"SesSDMFileReadMACKey", &key, &tap_values::MAC_KEY_ONE);
+    compare(t1, b"SDMMAC of the first tap", &mac, &tap_values::MAC_ONE)
 }
 
 fn tap_two() -> Tap {
     Tap {
-        uid: taps::UID_TWO,
+        uid: tap_values::UID_TWO,
         counter: 8,
         names: true,
         counts: true,
@@ -267,24 +272,29 @@ fn tap_two() -> Tap {
 }
 
 fn second_picc_data(t: Tally) -> Tally {
-    let picc = sdm::picc_data([0u8; 16], tap_two(), random_of(&taps::PADDING_TWO));
-    compare(t, b"PICCData of the second tap", &picc, &taps::PICC_TWO)
+    let picc = sdm::picc_data([0u8; 16], tap_two(), random_of(&tap_values::PADDING_TWO));
+    compare(
+        t,
+        b"PICCData of the second tap",
+        &picc,
+        &tap_values::PICC_TWO,
+    )
 }
 
 fn second_file_data(t: Tally) -> Tally {
     let keys = sdm::tap_keys([0u8; 16], tap_two());
     let enc = keys.enc;
-    let mut text = taps::TEXT_TWO;
+    let mut text = tap_values::TEXT_TWO;
     let whole = sdm::tap_encrypt(enc, 8, &mut text);
     let t1 = count(t, b"length of SDMENCFileData", whole);
-    compare(t1, b"SDMENCFileData", &text, &taps::HIDDEN_TWO)
+    compare(t1, b"SDMENCFileData", &text, &tap_values::HIDDEN_TWO)
 }
 
 fn second_mac(t: Tally) -> Tally {
     let keys = sdm::tap_keys([0u8; 16], tap_two());
     let key = keys.mac;
-    let mac = sdm::tap_mac(key, &taps::INPUT_TWO);
-    compare(t, b"SDMMAC of the second tap", &mac, &taps::MAC_TWO)
+    let mac = sdm::tap_mac(key, &tap_values::INPUT_TWO);
+    compare(t, b"SDMMAC of the second tap", &mac, &tap_values::MAC_TWO)
 }
 
 // Another value, a byte less, and nothing.

@@ -48,7 +48,7 @@ fn may_use(tag: Tag, ins: u8) -> bool
 {
     let rules = tag.files.rules;
     let lens = tag.files.lens;
-    let h = state::head_of(&rules, lens, tag.place.file);
+    let h = state::head_in(&rules, lens, tag.place.file);
     may(tag.live, access::access_for(ins, tag.live, h))
 }
 
@@ -95,7 +95,7 @@ fn read_range(tag: Tag, n: u8, at: usize, le: usize, random: [u8; 20]) -> Done
     if left < le {
         return replies::refuse(tag, 0x6C00 + (left % 256) as u16);
     }
-    let reading = state::reading_of(tag.files, n);
+    let reading = state::reading_in(tag.files, n);
     iso_part(tag, reading, n, at, all_or(le, left), random)
 }
 

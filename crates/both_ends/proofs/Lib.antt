@@ -1,3 +1,2 @@
 pub mod Authenticating
 pub mod Messages
-pub mod Padding

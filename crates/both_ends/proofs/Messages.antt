@@ -32,7 +32,7 @@ use Rattle.opening.specs.declared.Opened.the-variants.{Data}
 use Rattle.closing.proofs.Closing.{hidden-some, hidden-none}
 use Rattle.opening.proofs.Opening.{opening-right}
 use Rattle.padding.proofs.Unpadding.{padded-length}
-use Rattle.both_ends.proofs.Padding.{unpad-padded}
+use Rattle.padding.proofs.Padding.{unpad-padded}
 
 -- ---- padding
 padding-bytes : (n : ℕ) → AllBytes (128 ∷ replicate n 0)

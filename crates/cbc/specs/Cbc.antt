@@ -39,12 +39,13 @@ cbcBack w v s = across (opened w) (λ u c. c) (length s / 16) v s
 abbrev pub whole : List ℕ → Bool
 whole s = eqb (length s % 16) 0
 
--- the answer, and what the buffer holds: a length that is no whole number of blocks is refused, the buffer as it was
-pub record Chains (f : List ℕ → List ℕ) (old : List ℕ) (r : Chained) (new : List ℕ) : Type 0 where
-  pub told : r ≡ pick (whole old) Done Ragged
-  pub left : new ≡ pick (whole old) (f old) old
-
--- (house) the number of each answer; 01 has none (proofs/Answers.antt: chains-number)
+-- (house) the number of each answer; 01 has none
 unfoldable pub chainedNumber : Chained → ℕ
 chainedNumber Done = 0
 chainedNumber Ragged = 1
+
+-- the answer with its number, and what the buffer holds: a length that is no whole number of blocks is refused, the buffer as it was
+pub record Chains (f : List ℕ → List ℕ) (old : List ℕ) (r : Chained) (new : List ℕ) : Type 0 where
+  pub told : r ≡ pick (whole old) Done Ragged
+  pub left : new ≡ pick (whole old) (f old) old
+  pub number : chainedNumber r ≡ pick (whole old) 0 1

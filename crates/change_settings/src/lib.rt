@@ -29,7 +29,7 @@ fn with_rules(f: Files, n: u8, text: [u8; 27], len: u8) -> Files
 fn sdm_of(rules: &[u8; 81], lens: [u8; 3], n: u8) -> bool
     ensures { λ r. ⌜ r ≡ headIn (now (rules .entry)) lens n .sdm ⌝ }
 {
-    state::head_of(rules, lens, n).sdm
+    state::head_in(rules, lens, n).sdm
 }
 
 // The tap counter after a change of SDM: 0 where it turns from off to on.

@@ -96,7 +96,7 @@ pub fn read_data(tag: Tag, n: u8, x: &[u8], m: Mode, random: [u8; 20]) -> Done
     let size = state::file_size(n);
     let s = range_status(at, count, size);
     if s == 0 {
-        let reading = state::reading_of(tag.files, n);
+        let reading = state::reading_in(tag.files, n);
         return wrapped_part(tag, reading, n, at, asked_for(at, count, size), m, random);
     }
     replies::refuse(tag, s)

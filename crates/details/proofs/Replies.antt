@@ -16,7 +16,7 @@ use Rattle.state.specs.declared.Tag.{Tag}
 use Rattle.state.specs.State.{sizeOf, stringAt, rulesOf}
 use Rattle.state.proofs.Strings.{string-short}
 use Rattle.replies.specs.declared.Done.{Done}
-use Rattle.replies.specs.declared.Part.{Part}
+use Rattle.replies.specs.declared.Excerpt.{Excerpt}
 use Rattle.replies.specs.Answer.{Gives, accepted}
 use Rattle.details.specs.Details.{settingsReply, atFront}
 
@@ -56,7 +56,7 @@ rest-part s n e =
     (λ h. drop-of-length-le s {i = n} (omega arith) ∙ sym (drop-of-length-le s {i = 3} (omega arith)))
     (le-or-lt 3 (length s))
 
-abbrev part : List ℕ → ℕ → Part
+abbrev part : List ℕ → ℕ → Excerpt
 part b n = record { bytes = b; length = n }
 
 -- the pieces laid one behind the other are the reply
@@ -72,12 +72,12 @@ reply-laid s three b₁ b₂ b₃ n size l e t p q r =
     ap₂ part (h₃ .is) (sym (reply-length s size))
 
 -- the reply with the string of file n and its size
-pub settings-taken : (f : Files) (n size : ℕ) (s : List ℕ) (p : Part) → s ≡ stringAt (f .rules) (f .lens) n → size ≡ sizeOf n
+pub settings-taken : (f : Files) (n size : ℕ) (s : List ℕ) (p : Excerpt) → s ≡ stringAt (f .rules) (f .lens) n → size ≡ sizeOf n
     → p ≡ atFront (settingsReply s size) → take (min (p .length) 256) (p .bytes) ≡ settingsReply (rulesOf f n) (sizeOf n)
 unfolding atFront rulesOf
 settings-taken f n size s p e z q =
     let k : length s ≤ 27 = rw e (string-short (f .rules) (f .lens) n) in
     let h : length (settingsReply s size) ≤ 256 = omega (arith, reply-length s size) in
-    ap (λ (x : Part). take (min (x .length) 256) (x .bytes)) q
+    ap (λ (x : Excerpt). take (min (x .length) 256) (x .bytes)) q
     ∙ reply-taken (settingsReply s size) (replicate 258 0) (length (settingsReply s size)) refl h
     ∙ ap₂ settingsReply e z

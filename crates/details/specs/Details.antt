@@ -7,7 +7,7 @@ use Rattle.messaging.specs.declared.Mode.{Mode}
 use Rattle.messaging.specs.declared.Mode.the-variants.{Full}
 use Rattle.state.specs.declared.Tag.{Tag}
 use Rattle.state.specs.State.{sizeOf, rulesOf}
-use Rattle.replies.specs.declared.Part.{Part}
+use Rattle.replies.specs.declared.Excerpt.{Excerpt}
 use Rattle.replies.specs.Answer.{Answer, accepted}
 
 unfoldable pub cardUid : Tag → Answer
@@ -18,7 +18,7 @@ unfoldable pub settingsReply : List ℕ → ℕ → List ℕ
 settingsReply s size = 0 ∷ take 3 s ++ low 3 size ++ drop 3 s
 
 -- of the code, not the paper: a reply's data at the front of a buffer of 258 zeros, and its length
-unfoldable pub atFront : List ℕ → Part
+unfoldable pub atFront : List ℕ → Excerpt
 atFront s = record { bytes = over s (replicate 258 0); length = length s }
 
 unfoldable pub fileSettings : Tag → ℕ → Mode → Answer

@@ -7,7 +7,7 @@ ghost use Rattle.replies.specs.Answer.{Gives};
 ghost use Rattle.details.specs.Details.{cardUid, settingsReply, atFront, fileSettings, fileCounters};
 use messaging::Mode;
 use replies::Done;
-use replies::Part;
+use replies::Excerpt;
 use state::Tag;
 
 // GetCardUID.
@@ -42,7 +42,7 @@ fn before_size(len: usize) -> usize
 }
 
 // 00, FileOption, rights, size, the rest, of a settings string.
-fn settings_reply(s: &[u8], size: usize) -> Part
+fn settings_reply(s: &[u8], size: usize) -> Excerpt
     requires { ⌜ length (now s) ≤ 27 ⌝ }
     ensures { λ r. ⌜ r ≡ atFront (settingsReply (now (s .entry)) size) ⌝ }
 {
@@ -52,7 +52,7 @@ fn settings_reply(s: &[u8], size: usize) -> Part
     base::put(&s[..n], &mut bytes, 1);
     base::put(&three, &mut bytes, n + 1);
     base::put(&s[n..], &mut bytes, n + 4);
-    Part {
+    Excerpt {
         bytes,
         length: s.len() + 4,
     }

@@ -2,10 +2,11 @@
 use mathlib.Core.Bool.{Bool, not}
 use mathlib.Core.List.{List}
 use mathlib.Core.Path.{_≡_}
-use Prim.Native.Nat.{ℕ, _%_}
-use lib.ListN.{take}
+use Prim.Native.Nat.{ℕ, _/_, _%_}
+use lib.Dec.{leb}
+use lib.ListN.{length, take}
 use Rattle.base.specs.Bytes.{byteAt, laid, same}
-use Rattle.base.specs.Decide.{and, or}
+use Rattle.base.specs.Decide.{and, or, pick}
 use Rattle.sbox.specs.Tables.{invSbox, sbox}
 use Rattle.sbox.specs.Words.{mixingTable, unmixingTable, packed}
 use Rattle.words.specs.Words.{blockOf, columnOf, pickedOf, wordsOf}
@@ -44,7 +45,7 @@ use Rattle.authentication.specs.Authentication.{enciphered, firstReply, nextRep
 use Rattle.authentication.specs.declared.PartTwo.{PartTwo}
 use Rattle.session_keys.specs.Keys.{sessionKeys}
 use Rattle.session_keys.specs.declared.Keys.{Keys}
-use Rattle.padding.specs.Padding.{Pads, unpad}
+use Rattle.padding.specs.Padding.{Pads, isPadded, unpad, unpaddedStatus}
 use Rattle.padding.specs.declared.Padded.{Padded}
 use Rattle.padding.specs.declared.Unpadded.{Unpadded}
 use Rattle.messaging.specs.Protect.{commandIv, commandVector, messageMac, replyIv, replyVector}
@@ -54,7 +55,7 @@ use Rattle.closing.specs.Reply.{Closes, overlong}
 use Rattle.closing.specs.declared.Closed.{Closed}
 use Rattle.opening.specs.Command.{Opens, opening}
 use Rattle.opening.specs.declared.Opened.{Opened}
-use Rattle.lines.specs.Hex.{charOf, charsRoom, decoded, decodedRoom, digitOf, isHex}
+use Rattle.lines.specs.Hex.{charOf, charsRoom, decoded, decodedNumber, decodedRoom, digitOf, isHex}
 use Rattle.lines.specs.Lines.{seek}
 use Rattle.lines.specs.declared.Decoded.{Decoded}
 use Rattle.mirror.specs.Mirrors.{laidOf}
@@ -279,8 +280,9 @@ session-keys-determined kx a b = once
 pub pad-determined : (room : List ℕ) (n : ℕ) → DeterminedIn (λ (r : Padded) (new : List ℕ). Pads n room r new)
 pad-determined room n = pads-once
 
-pub unpad-determined : (s : List ℕ) → Determined (λ (r : Unpadded). r ≡ unpad s)
-unpad-determined s = once
+pub unpad-determined : (s : List ℕ)
+    → Determined (λ (r : Unpadded). (r ≡ unpad s) × (unpaddedStatus r ≡ pick (isPadded s) 0x9100 0x911E))
+unpad-determined s r q p h = once r q (p .0) (h .0)
 
 -- ---- messaging
 pub command-iv-determined : (s : Session) → Determined (λ (r : List ℕ). r ≡ commandIv s)
@@ -325,8 +327,9 @@ pub is-hex-determined : (text : List ℕ) → Determined (λ (r : Bool). r ≡ i
 is-hex-determined text = once
 
 pub decode-determined : (text room : List ℕ)
-    → DeterminedIn (λ (r : Decoded) (new : List ℕ). (r ≡ decoded text room) × (new ≡ decodedRoom text room))
-decode-determined text room = twice
+    → DeterminedIn (λ (r : Decoded) (new : List ℕ). (r ≡ decoded text room) × ((new ≡ decodedRoom text room)
+    × (decodedNumber r ≡ pick (isHex text) (pick (leb (length text / 2) (length room)) 0 2) 1)))
+decode-determined text room r q new other p h = twice r q new other (p .0, p .1 .0) (h .0, h .1 .0)
 
 pub encode-determined : (s room : List ℕ) → Determined (λ (new : List ℕ). new ≡ charsRoom s room)
 encode-determined s room = once

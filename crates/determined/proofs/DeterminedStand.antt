@@ -1,15 +1,17 @@
 -- Each public function of the image, of the C border and of what `rehearse` stands on: its promise, as the source states it, determines the
 -- result, the image and the rooms.
-use mathlib.Core.Bool.{Bool}
+use mathlib.Core.Bool.{Bool, true}
 use mathlib.Core.List.{List}
-use mathlib.Core.Path.{_≡_}
-use Prim.Native.Nat.{ℕ, _≤_}
-use lib.ListN.{length, take}
-use Rattle.base.specs.Bytes.{over}
+use mathlib.Core.Path.{_≡_, sym, ap₂, _∙_}
+use Prim.Native.Nat.{ℕ}
+use lib.Dec.{eqb}
+use lib.ListN.{length, take, drop}
+use Rattle.base.specs.Bytes.{byteAt, over}
+use Rattle.base.specs.Decide.{and, pick}
 use Rattle.settings.specs.Answers.{judged, verdictWord}
 use Rattle.normalising.specs.Answers.{normalNumber, normalRoom, normalised}
 use Rattle.state.specs.declared.Tag.{Tag}
-use Rattle.image.specs.Answers.{imageIn, storedIn, readIn}
+use Rattle.image.specs.Answers.{bitsAt, booleans, foundNumber, imageIn, readIn, rightLength, storedIn, storedNumber}
 use Rattle.image.specs.Image.{imageLength}
 use Rattle.image.specs.declared.Read.{Read}
 use Rattle.image.specs.declared.Stored.{Stored}
@@ -22,12 +24,19 @@ use Rattle.plans.specs.Numbers.{Means}
 use Rattle.plans.specs.declared.Line.{Line}
 use Rattle.plans.specs.declared.Meaning.{Meaning}
 use Rattle.verdict.specs.Replies.{differing, refusing, statusIn}
-use Rattle.keeping.specs.Keep.{Keeps}
+use Rattle.keeping.specs.Keep.{Keeps, Starts}
 use Rattle.keeping.specs.declared.Begun.{Begun}
 use Rattle.arguments.specs.Arguments.{Asks, besideLength, besideRoom}
 use Rattle.arguments.specs.declared.Asked.{Asked}
-use Rattle.turns.specs.Acts.{actedBy}
-use Rattle.turns.specs.declared.Acted.{Acted}
+use Rattle.forms.specs.Rooms.{Lays}
+use Rattle.forms.specs.Forms.{formOf}
+use Rattle.telling.specs.Turns.{lineText}
+use Rattle.tallies.specs.Counts.{countedBy, noTally}
+use Rattle.tallies.specs.declared.Tally.{Tally}
+use Rattle.tallies.specs.declared.Went.{Went}
+use Rattle.turns.specs.Lines.{lineActed, lineTold}
+use Rattle.turns.specs.declared.Taken.{Taken}
+use Rattle.summaries.specs.Summary.{summaryOf}
 use Rattle.determined.specs.Determining.{Determined, DeterminedIn, DeterminedRooms, DeterminedThree}
 use Rattle.determined.proofs.Determined.{once, twice, thrice, fourfold}
 
@@ -44,16 +53,19 @@ pub normal-string-determined : (file : ℕ) (text room : List ℕ)
 normal-string-determined file text room = twice
 
 -- ---- storing
-pub to-image-determined : (tag : Tag) (s : List ℕ) → DeterminedIn (λ (r : Stored) (new : List ℕ). (r ≡ storedIn s) × (new ≡ imageIn tag s))
-to-image-determined tag s = twice
+pub to-image-determined : (tag : Tag) (s : List ℕ)
+    → DeterminedIn (λ (r : Stored) (new : List ℕ). (r ≡ storedIn s) × ((new ≡ imageIn tag s) × (storedNumber r ≡ pick (rightLength s) 0 1005)))
+to-image-determined tag s r q new other p h = twice r q new other (p .0, p .1 .0) (h .0, h .1 .0)
 
 -- ---- making
 pub make-determined : (uid state : List ℕ) → DeterminedIn (λ (r : ℕ) (new : List ℕ). Makes uid state r new)
 make-determined uid state r q new other p h = twice r q new other (p .number, p .left) (h .number, h .left)
 
 -- ---- restoring
-pub from-image-determined : (s : List ℕ) → Determined (λ (r : Read). r ≡ readIn s)
-from-image-determined s = once
+pub from-image-determined : (s : List ℕ)
+    → Determined (λ (r : Read). (r ≡ readIn s)
+    × (foundNumber (r .found) ≡ pick (rightLength s) (pick (and (eqb (byteAt s 0) 1) (bitsAt s booleans)) 0 1003) 1005))
+from-image-determined s r q p h = once r q (p .0) (h .0)
 
 -- ---- playing
 pub play-determined : (state command random room : List ℕ)
@@ -116,6 +128,9 @@ differs-determined expected reply = once
 pub kept-determined : (s uid : List ℕ) → Determined (λ (r : Begun). Keeps s uid r)
 kept-determined s uid r q p h = once r q (p .told) (h .told)
 
+pub anew-determined : (uid : List ℕ) → Determined (λ (r : Begun). Starts uid r)
+anew-determined uid r q p h = once r q (p .told) (h .told)
+
 -- ---- arguments
 pub asks-determined : (count : ℕ) (named : Bool) → Determined (λ (r : Asked). Asks count named r)
 asks-determined count named r q p h = once r q (p .told) (h .told)
@@ -124,7 +139,39 @@ pub beside-determined : (path room : List ℕ)
     → DeterminedIn (λ (r : ℕ) (new : List ℕ). (r ≡ besideLength path room) × (new ≡ besideRoom path room))
 beside-determined path room = twice
 
+-- ---- forms
+pub append-determined : (s room : List ℕ) (n : ℕ) → DeterminedIn (λ (r : ℕ) (new : List ℕ). Lays s n room r new)
+append-determined s room n r q new other p h = twice r q new other (p .end, p .left) (h .end, h .left)
+
+pub append-from-determined : (s : List ℕ) (k : ℕ) (room : List ℕ) (n : ℕ) → DeterminedIn (λ (r : ℕ) (new : List ℕ). Lays (drop k s) n room r new)
+append-from-determined s k room n = append-determined (drop k s) room n
+
+pub append-form-determined : (form numbers : List ℕ) (flags : List Bool) (room : List ℕ) (n : ℕ)
+    → DeterminedIn (λ (r : ℕ) (new : List ℕ). Lays (formOf true form numbers flags) n room r new)
+append-form-determined form numbers flags room n = append-determined (formOf true form numbers flags) room n
+
+-- ---- telling
+pub line-text-determined : (number : ℕ) (m : Meaning) (c reply e : List ℕ) (undrawn unmet : Bool) (room : List ℕ)
+    → DeterminedIn (λ (r : ℕ) (new : List ℕ). Lays (lineText number m c reply e undrawn unmet) 0 room r new)
+line-text-determined number m c reply e undrawn unmet room = append-determined (lineText number m c reply e undrawn unmet) room 0
+
+-- ---- tallies
+pub counted-determined : (n : Tally) (number : ℕ) (w : Went) → Determined (λ (r : Tally). r ≡ countedBy n number w)
+counted-determined n number w = once
+
+pub none-determined : Determined (λ (r : Tally). r ≡ noTally)
+none-determined = once
+
 -- ---- turns
-pub carry-out-determined : (tag : Tag) (m : Meaning) (c x e d : List ℕ)
-    → Determined (λ (r : Acted). (r ≡ actedBy m tag c x e d) × (r .length ≤ 258))
-carry-out-determined tag m c x e d r q p h = once r q (p .0) (h .0)
+taken-by : {r q : Taken} → r .turn ≡ q .turn → r .length ≡ q .length → r ≡ q
+taken-by a b = ap₂ (λ t n. record { turn = t; length = n }) a b
+
+pub take-turn-determined : (tag : Tag) (number : ℕ) (line d room : List ℕ)
+    → DeterminedIn (λ (r : Taken) (new : List ℕ). (r .turn ≡ lineActed tag line d .turn) × (Lays (lineTold number tag line d) 0 room (r .length) new))
+take-turn-determined tag number line d room r q new other p h =
+    let t = append-determined (lineTold number tag line d) room 0 (r .length) (q .length) new other (p .1) (h .1) in
+    (taken-by (p .0 ∙ sym (h .0)) (t .0), t .1)
+
+-- ---- summaries
+pub summary-determined : (tag : Tag) (room : List ℕ) → DeterminedIn (λ (r : ℕ) (new : List ℕ). Lays (summaryOf tag) 0 room r new)
+summary-determined tag room = append-determined (summaryOf tag) room 0

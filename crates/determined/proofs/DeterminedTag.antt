@@ -18,7 +18,7 @@ use Rattle.state.specs.declared.Tapping.{Tapping}
 use Rattle.order.specs.Order.{formRight, frontStatus, hasData, headerLength, keyStatus, orderStatus}
 use Rattle.replies.specs.Answer.{Gives, accepted, afterwards, given, refusal, sessionOf, usedUp}
 use Rattle.replies.specs.declared.Done.{Done}
-use Rattle.replies.specs.declared.Part.{Part}
+use Rattle.replies.specs.declared.Excerpt.{Excerpt}
 use Rattle.auth.specs.Parts.{partOneFirst, partOneNext, roomGiven}
 use Rattle.keyring.specs.Keyring.{changedKey, keyVersion}
 use Rattle.details.specs.Details.{cardUid, fileCounters, fileSettings}
@@ -53,8 +53,8 @@ file-size-determined n = once
 pub file-start-determined : (n : ℕ) → Determined (λ (r : ℕ). r ≡ startOf n)
 file-start-determined n = once
 
-pub head-of-determined : (rules lens : List ℕ) (n : ℕ) → Determined (λ (r : Head). r ≡ headIn rules lens n)
-head-of-determined rules lens n = once
+pub head-in-determined : (rules lens : List ℕ) (n : ℕ) → Determined (λ (r : Head). r ≡ headIn rules lens n)
+head-in-determined rules lens n = once
 
 pub key-of-determined : (keys : List ℕ) (k : ℕ) → Determined (λ (r : List ℕ). r ≡ keyIn keys k)
 key-of-determined keys k = once
@@ -68,8 +68,8 @@ no-pending-determined = once
 pub quiet-determined : (t : Tapping) → Determined (λ (r : Tapping). r ≡ quieted t)
 quiet-determined t = once
 
-pub reading-of-determined : (f : Files) (n : ℕ) → Determined (λ (r : Reading). r ≡ readingIn f n)
-reading-of-determined f n = once
+pub reading-in-determined : (f : Files) (n : ℕ) → Determined (λ (r : Reading). r ≡ readingIn f n)
+reading-in-determined f n = once
 
 pub slot-of-determined : (n : ℕ) → Determined (λ (r : ℕ). r ≡ slotOf n)
 slot-of-determined n = once
@@ -151,7 +151,7 @@ pub file-counters-determined : (tag : Tag) (m : Mode) → DeterminedText (λ (r 
 file-counters-determined tag m = gives-once
 
 -- ---- file_parts
-pub cut-determined : (text : List ℕ) (at count : ℕ) → Determined (λ (r : Part). r ≡ partOf text at count)
+pub cut-determined : (text : List ℕ) (at count : ℕ) → Determined (λ (r : Excerpt). r ≡ partOf text at count)
 cut-determined text at count = once
 
 pub read-stored-determined : (tag : Tag) (m : Mode) (n at count : ℕ) → DeterminedText (λ (r : Done). Gives (stored tag m n at count) r)

@@ -13,7 +13,7 @@ use Rattle.base.specs.Bytes.{laid}
 use Rattle.base.proofs.Bytes.{le-or-lt, laid-front, laid-not}
 use Rattle.state.specs.declared.Files.{Files}
 use Rattle.state.specs.State.{startOf, sizeOf, fileOf}
-use Rattle.replies.specs.declared.Part.{Part}
+use Rattle.replies.specs.declared.Excerpt.{Excerpt}
 use Rattle.file_parts.specs.Filing.{partOf, withBytes}
 
 -- ---- parts of a list
@@ -49,7 +49,7 @@ module _ (s : List ℕ) (at k start len : ℕ) (e : start ≡ min at (length s))
   cut-length : len ≡ length (take k (drop at s))
   cut-length = count ∙ sym (length-take k (drop at s))
 
-abbrev part : List ℕ → ℕ → Part
+abbrev part : List ℕ → ℕ → Excerpt
 part b n = record { bytes = b; length = n }
 
 pub cut-part : (s b : List ℕ) (at n k start len : ℕ) → start ≡ min at (length s) → k ≡ min n 256 → len ≡ min k (length s - start)
@@ -60,7 +60,7 @@ cut-part s b at n k start len e g f h =
     ap₂ part (h ∙ ap (λ x. laid x 0 (replicate 258 0)) (cut-bytes s at k start len e f ∙ q)) (cut-length s at k start len e f ∙ ap length q)
 
 -- what is given of a part of a text of at most 256 bytes
-pub part-given : (s : List ℕ) (at n : ℕ) (p : Part) → length s ≤ 256 → p ≡ partOf s at n
+pub part-given : (s : List ℕ) (at n : ℕ) (p : Excerpt) → length s ≤ 256 → p ≡ partOf s at n
     → take (min (p .length) 256) (p .bytes) ≡ take n (drop at s)
 unfolding partOf
 part-given s at n p h e =
@@ -68,7 +68,7 @@ part-given s at n p h e =
     let l : length x ≤ 256 = simp length-take (omega arith) in
     let m : length (drop at s) ≤ 256 = omega (arith, length-drop at s) in
     let k : min (length x) 256 ≡ length x = omega arith in
-    ap (λ (y : Part). take (min (y .length) 256) (y .bytes)) e
+    ap (λ (y : Excerpt). take (min (y .length) 256) (y .bytes)) e
     ∙ ap₂ (λ i y. take i y) k (laid-front x (replicate 258 0) (omega arith))
     ∙ take-append-seam x (drop (length x) (replicate 258 0))
     ∙ take-bound n 256 (drop at s) m

@@ -7,12 +7,12 @@ use Rattle.messaging.specs.declared.Mode.{Mode}
 use Rattle.state.specs.declared.Files.{Files}
 use Rattle.state.specs.declared.Tag.{Tag}
 use Rattle.state.specs.State.{startOf, fileOf}
-use Rattle.replies.specs.declared.Part.{Part}
+use Rattle.replies.specs.declared.Excerpt.{Excerpt}
 use Rattle.replies.specs.Answer.{Answer, given, accepted, afterwards}
 
 -- of the code, not the paper: the part of a text from an offset on, so many bytes of it, at the front of the buffer that holds a
 -- reply's data (258 bytes, of which data take at most 256)
-unfoldable pub partOf : List ℕ → ℕ → ℕ → Part
+unfoldable pub partOf : List ℕ → ℕ → ℕ → Excerpt
 partOf text at count =
     let x = take (min count 256) (drop at text) in
     record { bytes = laid x 0 (replicate 258 0); length = length x }

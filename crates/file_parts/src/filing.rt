@@ -5,23 +5,23 @@ ghost use Rattle.replies.specs.Answer.{Gives};
 ghost use Rattle.file_parts.specs.Filing.{partOf, stored, storedIso, withBytes};
 use messaging::Mode;
 use replies::Done;
-use replies::Part;
+use replies::Excerpt;
 use state::Files;
 use state::Tag;
 
 // The part of a text from an offset on, so many bytes of it, at most 256.
-pub fn cut(text: &[u8], at: usize, count: usize) -> Part
+pub fn cut(text: &[u8], at: usize, count: usize) -> Excerpt
     ensures { λ r. ⌜ r ≡ partOf (now (text .entry)) at count ⌝ }
 {
     let start = replies::smaller(at, text.len());
     let length = replies::smaller(replies::smaller(count, 256), text.len() - start);
     let mut bytes = [0u8; 258];
     base::put(&text[start..start + length], &mut bytes, 0);
-    Part { bytes, length }
+    Excerpt { bytes, length }
 }
 
 // The part of file n from an offset on.
-fn file_part(f: Files, n: u8, at: usize, count: usize) -> Part
+fn file_part(f: Files, n: u8, at: usize, count: usize) -> Excerpt
     ensures { λ r. ⌜ r ≡ partOf (fileOf f n) at count ⌝ }
 {
     let bytes = f.bytes;

@@ -1,5 +1,5 @@
--- What reading and writing an image answer, by number.
-use mathlib.Core.Path.{_≡_, refl}
+-- What reading an image answers, by number.
+use mathlib.Core.Path.{_≡_, refl, ap, _∙_}
 use mathlib.Core.Bool.{Bool, true, false}
 use mathlib.Core.List.{List}
 use Prim.Native.Nat.{ℕ}
@@ -8,9 +8,9 @@ use Rattle.base.specs.Decide.{pick, and}
 use Rattle.base.specs.Bytes.{byteAt}
 use Rattle.state.specs.declared.Tag.{Tag}
 use Rattle.image.specs.declared.Found.the-variants.{WrongLength, WrongVersion, NotABoolean}
-use Rattle.image.specs.declared.Stored.the-variants.{Written, OtherLength}
+use Rattle.image.specs.declared.Read.{Read}
 use Rattle.image.specs.Image.{tagIn}
-use Rattle.image.specs.Answers.{foundNumber, storedNumber, bitsAt, booleans, rightLength, whole, refusedAs, readIn, storedIn}
+use Rattle.image.specs.Answers.{foundNumber, bitsAt, booleans, rightLength, whole, refusedAs, readIn}
 
 found-by : (long version bits : Bool) (t : Tag)
     → foundNumber (pick long (pick version (pick bits (whole t) (refusedAs NotABoolean)) (refusedAs WrongVersion)) (refusedAs WrongLength) .found)
@@ -21,15 +21,12 @@ found-by true false bits t = refl
 found-by false version bits t = refl
 
 -- 1005 for another length, 1003 for another version or a Boolean over 1, else 0
-pub found-number : (s : List ℕ)
+found-number : (s : List ℕ)
     → foundNumber (readIn s .found) ≡ pick (rightLength s) (pick (and (eqb (byteAt s 0) 1) (bitsAt s booleans)) 0 1003) 1005
 unfolding readIn
 found-number s = found-by (rightLength s) (eqb (byteAt s 0) 1) (bitsAt s booleans) (tagIn s)
 
-stored-by : (long : Bool) → storedNumber (pick long Written OtherLength) ≡ pick long 0 1005
-stored-by true = refl
-stored-by false = refl
-
-pub stored-number : (s : List ℕ) → storedNumber (storedIn s) ≡ pick (rightLength s) 0 1005
-unfolding storedIn
-stored-number s = stored-by (rightLength s)
+-- what is read, with its number
+pub reads : (s : List ℕ) (r : Read) → r ≡ readIn s
+    → (r ≡ readIn s) × (foundNumber (r .found) ≡ pick (rightLength s) (pick (and (eqb (byteAt s 0) 1) (bitsAt s booleans)) 0 1003) 1005)
+reads s r e = (e, ap (λ (x : Read). foundNumber (x .found)) e ∙ found-number s)

@@ -8,6 +8,9 @@ use Rattle.base.specs.Decide.{pick}
 use Rattle.base.specs.Bytes.{byteAt, same}
 use Rattle.state.specs.declared.Tag.{Tag}
 use Rattle.soundness.specs.Sound.{soundTag}
+use Rattle.delivery.specs.Fresh.{blank, freshTag, rightUid, born}
+use Rattle.delivery.specs.declared.Birth.{Birth}
+use Rattle.delivery.specs.declared.Made.the-variants.{Fresh, WrongUid}
 use Rattle.image.specs.declared.Found.the-variants.{WrongLength, WrongVersion, NotABoolean}
 use Rattle.image.specs.declared.Read.{Read}
 use Rattle.image.specs.Image.{tagIn}
@@ -15,7 +18,7 @@ use Rattle.image.specs.Answers.{bitsAt, booleans, rightLength, whole, refusedAs
 use Rattle.keeping.specs.declared.Start.{Start}
 use Rattle.keeping.specs.declared.Start.the-variants.{Ready, Unsound, OtherUid}
 use Rattle.keeping.specs.declared.Begun.{Begun}
-use Rattle.keeping.specs.Keep.{startNumber, startBy, keptBy, keptIn, keptCase, Keeps}
+use Rattle.keeping.specs.Keep.{startNumber, freshStart, anewBy, Starts, startBy, keptBy, keptIn, keptCase, Keeps}
 
 -- what a run starts from, by number
 judged-number : (sound mine : Bool) → startNumber (pick sound (pick mine Ready OtherUid) Unsound) ≡ pick sound (pick mine 0 5) 4
@@ -50,3 +53,16 @@ pub keeps : (s uid : List ℕ) (r : Read) (v : Start) (a b : Bool) → r ≡ rea
 keeps s uid r v a b h p q e =
     let k = kept-is s uid r v a b h p q e in
     record { number = ap (λ (x : Begun). startNumber (x .start)) k ∙ kept-number s uid; told = k }
+
+-- ---- a fresh tag
+started-by : (right : Bool) (uid : List ℕ)
+    → startNumber (anewBy (pick right (record { made = Fresh; tag = freshTag uid }) (record { made = WrongUid; tag = blank })) .start) ≡ pick right 0 6
+unfolding anewBy freshStart startNumber
+started-by true uid = refl
+started-by false uid = refl
+
+pub starts : (uid : List ℕ) (b : Birth) (s : Start) → b ≡ born uid → s ≡ freshStart (b .made) → Starts uid (record { start = s; tag = b .tag })
+unfolding anewBy born
+starts uid b s e h =
+    let told : record { start = s; tag = b .tag } ≡ anewBy (born uid) = ap (λ (x : Start). record { start = x; tag = b .tag }) h ∙ ap anewBy e in
+    record { number = ap (λ (r : Begun). startNumber (r .start)) told ∙ started-by (rightUid uid) uid; told = told }

@@ -1,4 +1,4 @@
--- A tag that is kept in a file between runs.
+-- What a run starts from: a fresh tag, or one that is kept in a file between runs.
 use mathlib.Core.Bool.{Bool}
 use mathlib.Core.List.{List}
 use mathlib.Core.Path.{_≡_}
@@ -7,6 +7,10 @@ use lib.Dec.{eqb}
 use Rattle.base.specs.Decide.{pick}
 use Rattle.base.specs.Bytes.{byteAt, same}
 use Rattle.soundness.specs.Sound.{soundTag}
+use Rattle.delivery.specs.Fresh.{rightUid, born}
+use Rattle.delivery.specs.declared.Made.{Made}
+use Rattle.delivery.specs.declared.Made.the-variants.{Fresh, WrongUid}
+use Rattle.delivery.specs.declared.Birth.{Birth}
 use Rattle.image.specs.declared.Found.{Found}
 use Rattle.image.specs.declared.Found.the-variants.{Whole, WrongLength, WrongVersion, NotABoolean}
 use Rattle.image.specs.declared.Read.{Read}
@@ -26,6 +30,18 @@ startNumber Unsound = 4
 startNumber OtherUid = 5
 startNumber NoUid = 6
 startNumber Unread = 7
+
+-- a fresh tag, where the UID is one
+unfoldable pub freshStart : Made → Start
+freshStart Fresh = Ready
+freshStart WrongUid = NoUid
+
+unfoldable pub anewBy : Birth → Begun
+anewBy b = record { start = freshStart (b .made); tag = b .tag }
+
+pub record Starts (uid : List ℕ) (r : Begun) : Type 0 where
+  pub number : startNumber (r .start) ≡ pick (rightUid uid) 0 6
+  pub told : r ≡ anewBy (born uid)
 
 -- what was found in a file: a whole image must hold a sound state, and that of the plan's tag
 unfoldable pub startBy : Found → Bool → Bool → Start

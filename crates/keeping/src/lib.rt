@@ -1,6 +1,7 @@
 // What is kept of a tag between runs: what a file's bytes give a run to start from.
 ghost use mathlib.Core.Path.{_≡_};
-ghost use Rattle.keeping.specs.Keep.{startBy, Keeps};
+ghost use Rattle.keeping.specs.Keep.{freshStart, Starts, startBy, Keeps};
+use delivery::Made;
 use image::Found;
 use state::Tag;
 
@@ -20,6 +21,26 @@ pub enum Start {
 pub struct Begun {
     pub start: Start,
     pub tag: Tag,
+}
+
+fn fresh_start(made: Made) -> Start
+    ensures { λ r. ⌜ r ≡ freshStart made ⌝ }
+{
+    match made {
+        Made::Fresh => Start::Ready,
+        Made::WrongUid => Start::NoUid,
+    }
+}
+
+// The fresh tag with a UID, where it is one.
+pub fn anew(uid: &[u8; 7]) -> Begun
+    ensures { λ r. ⌜ Starts (now (uid .entry)) r ⌝ }
+{
+    let b = delivery::fresh(uid);
+    let tag = b.tag;
+    let made = b.made;
+    let start = fresh_start(made);
+    Begun { start, tag }
 }
 
 // A whole image must hold a sound state of the tag that the plan is for.

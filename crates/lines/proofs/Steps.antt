@@ -10,12 +10,12 @@ use mathlib.Core.Logic.{⊎-elim}
 use lib.Dec.{eqb, ltb}
 use lib.ListN.{length, getD, take, drop, set, length-drop, drop-of-length-le}
 use lib.Seq.{drop-cons, take-suc, take-suc-set, take-all, append-snoc, length-take-le}
-use borrow.Author.Tests.{eq-eqb, ne-eqb}
+use borrow.Author.Tests.{eq-eqb, ne-eqb, le-leb}
 use Rattle.base.specs.Decide.{pick, and}
 use Rattle.base.specs.Bytes.{laid, over}
 use Rattle.base.proofs.Bytes.{le-or-lt, over-more}
 use Rattle.lines.specs.Lines.{before, seek}
-use Rattle.lines.specs.Hex.{digitOf, charOf, isHex, byteOf, bytesOf, charsOf}
+use Rattle.lines.specs.Hex.{digitOf, charOf, isHex, byteOf, bytesOf, charsOf, charsRoom}
 
 pub seek-here : (s : List ℕ) (i b : ℕ) → i < length s → getD s i 0 ≡ b → seek s i b ≡ i
 unfolding seek before
@@ -106,7 +106,7 @@ unfolding charsOf
 chars-append [] b = refl
 chars-append (x ∷ a) b = ap (λ l. charOf (x / 16 % 16) ∷ charOf (x % 16) ∷ l) (chars-append a b)
 
-chars-length : (s : List ℕ) → length (charsOf s) ≡ length s * 2
+pub chars-length : (s : List ℕ) → length (charsOf s) ≡ length s * 2
 unfolding charsOf
 chars-length [] = refl
 chars-length (x ∷ s) = let e = chars-length s in omega arith
@@ -127,3 +127,11 @@ chars-more s d b b′ i h k e f =
 
 pub chars-all : (s d : List ℕ) (i : ℕ) → length s ≤ i → over (charsOf (take i s)) d ≡ over (charsOf s) d
 chars-all s d i h = ap (λ x. over (charsOf x) d) (take-all i s h)
+
+-- digits that fill their room
+pub chars-whole : (s d : List ℕ) → length s * 2 ≡ length d → charsRoom s d ≡ charsOf s
+unfolding charsRoom
+chars-whole s d e =
+    ap (λ x. pick x (over (charsOf s) d) d) (le-leb (length s * 2) (length d) (omega arith))
+    ∙ ap (λ x. charsOf s ++ x) (drop-of-length-le d {i = length (charsOf s)} (omega (arith, chars-length s)))
+    ∙ append-nil (charsOf s)

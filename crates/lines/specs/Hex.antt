@@ -42,12 +42,6 @@ decodedNumber (Bytes n) = 0
 decodedNumber NotHex = 1
 decodedNumber RoomTooSmall = 2
 
--- and how many bytes
-abbrev pub decodedCount : Decoded → ℕ
-decodedCount (Bytes n) = n
-decodedCount NotHex = 0
-decodedCount RoomTooSmall = 0
-
 -- what decoding answers, and what it leaves in the room
 unfoldable pub decoded : List ℕ → List ℕ → Decoded
 decoded s room = pick (isHex s) (pick (leb (length s / 2) (length room)) (Bytes (length s / 2)) RoomTooSmall) NotHex

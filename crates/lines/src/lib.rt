@@ -1,9 +1,11 @@
 // Lines, words and capital hexadecimal, for the programs that run vectors.
 ghost use mathlib.Core.Path.{_≡_};
-ghost use Prim.Native.Nat.{_*_, _%_};
+ghost use Prim.Native.Nat.{_*_, _/_, _%_};
+ghost use lib.Dec.{leb};
 ghost use lib.ListN.{length};
+ghost use Rattle.base.specs.Decide.{pick};
 ghost use Rattle.lines.specs.Lines.{seek};
-ghost use Rattle.lines.specs.Hex.{digitOf, charOf, isHex, byteOf, bytesOf, charsRoom, decoded, decodedRoom};
+ghost use Rattle.lines.specs.Hex.{digitOf, charOf, isHex, byteOf, bytesOf, charsRoom, decodedNumber, decoded, decodedRoom};
 
 // What decoding answers: the number of bytes, or why there are none.
 pub enum Decoded {
@@ -95,6 +97,7 @@ fn fill(text: &[u8], room: &mut [u8])
 pub fn decode(text: &[u8], room: &mut [u8]) -> Decoded
     ensures answer { λ r. ⌜ r ≡ decoded (now (text .entry)) (now (room .entry)) ⌝ }
     ensures left { λ r. ⌜ now (room .exit) ≡ decodedRoom (now (text .entry)) (now (room .entry)) ⌝ }
+    ensures number { λ r. ⌜ decodedNumber r ≡ pick (isHex (now (text .entry))) (pick (leb (length (now (text .entry)) / 2) (length (now (room .entry)))) 0 2) 1 ⌝ }
 {
     let n = text.len() / 2;
     if is_hex(text) {

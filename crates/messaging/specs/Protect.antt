@@ -34,7 +34,7 @@ commandIv s = commandVector (keyExpansion (s .enc)) s
 unfoldable pub replyIv : Session → List ℕ
 replyIv s = replyVector (keyExpansion (s .enc)) s
 
--- Table 69: the number of each mode in FileOption (crates/state/proofs/Modes.antt: file-mode-number)
+-- Table 69: the number of each mode in FileOption (crates/access/specs/Access.antt: fileMode)
 unfoldable pub modeNumber : Mode → ℕ
 modeNumber Plain = 0
 modeNumber Mac = 1

@@ -11,6 +11,7 @@ use Rattle.base.specs.Decide.{pick, or}
 use Rattle.base.specs.Bytes.{laid, over}
 use Rattle.base.proofs.Bytes.{laid-not}
 use Rattle.lines.specs.Hex.{charsOf, charsRoom}
+use Rattle.lines.proofs.Steps.{chars-length}
 use Rattle.cbc.specs.Cbc.{across, sealed, cbcOut}
 use Rattle.spans.specs.declared.Span.{Span}
 use Rattle.spans.specs.declared.Reading.{Reading}
@@ -18,11 +19,6 @@ use Rattle.mirror.specs.declared.Mirror.{Mirror}
 use Rattle.mirror.specs.Mirrors.{mirrorAt, stretch, withEnc, withMac}
 
 -- ---- digits
-pub chars-length : (s : List ℕ) → length (charsOf s) ≡ length s * 2
-unfolding charsOf
-chars-length [] = refl
-chars-length (x ∷ s) = let e = chars-length s in omega arith
-
 -- the digits at the front of a room that they fit into
 chars-front : (s room : List ℕ) → length s * 2 ≤ length room → take (length s * 2) (charsRoom s room) ≡ charsOf s
 unfolding charsRoom

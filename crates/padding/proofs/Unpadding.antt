@@ -12,7 +12,7 @@ use borrow.Author.Tests.{eq-eqb, le-leb, lt-leb, eqb-true, leb-true}
 use Rattle.base.specs.Decide.{pick, and}
 use Rattle.base.specs.Bytes.{byteAt, laid}
 use Rattle.base.proofs.Bytes.{Holds, and-left, and-right, le-or-lt}
-use Rattle.padding.specs.Padding.{padded, paddedLength, blocks, mark, unpad, padding, paddedIn, Pads}
+use Rattle.padding.specs.Padding.{padded, paddedLength, blocks, mark, unpad, padding, paddedIn, paddedNumber, Pads}
 use Rattle.padding.specs.declared.Unpadded.the-variants.{Text, Wrong}
 use Rattle.padding.specs.declared.Padded.the-variants.{Whole, NoPlace}
 use Rattle.base.proofs.Pieces.{also, fronted}
@@ -34,12 +34,14 @@ unfolding padded paddedLength
 padded-length x = simp (length-append, length-replicate) (omega arith)
 
 pub pads-not : (n : ℕ) (old : List ℕ) → length old < paddedLength n → Pads n old NoPlace old
-unfolding padding paddedIn
-pads-not n old h = record { told = rw (lt-leb (paddedLength n) (length old) h) refl; left = rw (lt-leb (paddedLength n) (length old) h) refl }
+unfolding padding paddedIn paddedNumber
+pads-not n old h =
+    let e = lt-leb (paddedLength n) (length old) h in
+    record { told = rw e refl; left = rw e refl; number = rw e refl }
 
 pub pads : (n : ℕ) (old new : List ℕ) → n + (16 - n % 16) ≤ length old
     → new ≡ laid (take (16 - n % 16) (128 ∷ replicate 15 0)) n old → Pads n old (Whole (n + (16 - n % 16))) new
-unfolding padding paddedIn paddedLength padded
+unfolding padding paddedIn paddedNumber paddedLength padded
 pads n old new f e =
     let g : n / 16 * 16 + 16 ≤ length old = omega arith in
     let q : n + (16 - n % 16) ≡ n / 16 * 16 + 16 = omega arith in
@@ -50,6 +52,7 @@ pads n old new f e =
     record {
       told = rw (le-leb (n / 16 * 16 + 16) (length old) g) (ap Whole q);
       left = rw (le-leb (n / 16 * 16 + 16) (length old) g, length-take-le n old (omega arith)) (h .is);
+      number = rw (le-leb (n / 16 * 16 + 16) (length old) g) refl;
     }
 
 -- ---- the mark

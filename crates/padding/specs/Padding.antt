@@ -1,12 +1,12 @@
 -- 9.1.4: padding method 2 of ISO/IEC 9797-1, and its opposite.
-use mathlib.Core.Bool.{Bool}
+use mathlib.Core.Bool.{Bool, false}
 use mathlib.Core.List.{List, _∷_, _++_}
 use mathlib.Core.Path.{_≡_}
 use Prim.Native.Nat.{ℕ, zero, suc, _+_, _-_, _*_, _/_, _%_}
 use lib.Dec.{eqb, leb}
 use lib.ListN.{length, take, replicate}
-use Rattle.base.specs.Decide.{pick, and}
-use Rattle.base.specs.Bytes.{byteAt, over}
+use Rattle.base.specs.Decide.{pick, and, or}
+use Rattle.base.specs.Bytes.{byteAt, same, over}
 use Rattle.padding.specs.declared.Unpadded.{Unpadded}
 use Rattle.padding.specs.declared.Unpadded.the-variants.{Text, Wrong}
 use Rattle.padding.specs.declared.Padded.{Padded}
@@ -33,6 +33,20 @@ mark (suc k) s n = pick (eqb (byteAt s (n - 1)) 128) (Text (n - 1)) (pick (eqb (
 unfoldable pub unpad : List ℕ → Unpadded
 unpad s = pick (blocks (length s)) (mark 16 s (length s)) Wrong
 
+-- s is a front of its own of fewer than n bytes, with its padding
+unfoldable pub paddedBelow : ℕ → List ℕ → Bool
+paddedBelow zero s = false
+paddedBelow (suc n) s = or (same (padded (take n s)) s) (paddedBelow n s)
+
+-- s is a text with its padding; any other is wrong padding
+unfoldable pub isPadded : List ℕ → Bool
+isPadded s = paddedBelow (length s) s
+
+-- 01's status for each answer: wrong padding is 911E
+unfoldable pub unpaddedStatus : Unpadded → ℕ
+unpaddedStatus (Text n) = 0x9100
+unpaddedStatus Wrong = 0x911E
+
 -- the text that stands at the front of a room, padded there; a room that is too small stays as it is
 unfoldable pub padding : List ℕ → ℕ → Padded
 padding old n = pick (leb (paddedLength n) (length old)) (Whole (paddedLength n)) NoPlace
@@ -40,16 +54,12 @@ padding old n = pick (leb (paddedLength n) (length old)) (Whole (paddedLength n)
 unfoldable pub paddedIn : List ℕ → ℕ → List ℕ
 paddedIn old n = pick (leb (paddedLength n) (length old)) (over (padded (take n old)) old) old
 
-pub record Pads (n : ℕ) (old : List ℕ) (r : Padded) (new : List ℕ) : Type 0 where
-  pub told : r ≡ padding old n
-  pub left : new ≡ paddedIn old n
-
--- 01's status for each answer: wrong padding is 911E (crates/opening/proofs/Answers.antt: unpad-status)
-unfoldable pub unpaddedStatus : Unpadded → ℕ
-unpaddedStatus (Text n) = 0x9100
-unpaddedStatus Wrong = 0x911E
-
--- (house) the number of each answer; 01 has none (proofs/Answers.antt: pads-number)
+-- (house) the number of each answer; 01 has none
 unfoldable pub paddedNumber : Padded → ℕ
 paddedNumber (Whole n) = 0
 paddedNumber NoPlace = 1
+
+pub record Pads (n : ℕ) (old : List ℕ) (r : Padded) (new : List ℕ) : Type 0 where
+  pub told : r ≡ padding old n
+  pub left : new ≡ paddedIn old n
+  pub number : paddedNumber r ≡ pick (leb (paddedLength n) (length old)) 0 1

@@ -1,6 +1,7 @@
 // Padding method 2 of ISO/IEC 9797-1, both ways (9.1.4).
 ghost use mathlib.Core.Path.{_≡_};
-ghost use Rattle.padding.specs.Padding.{unpad, Pads};
+ghost use Rattle.base.specs.Decide.{pick};
+ghost use Rattle.padding.specs.Padding.{unpad, unpaddedStatus, isPadded, Pads};
 
 // What a padded text was.
 pub enum Unpadded {
@@ -38,7 +39,8 @@ pub fn pad(room: &mut [u8], n: usize) -> Padded
 
 // How long the text is that was padded.
 pub fn unpad(s: &[u8]) -> Unpadded
-    ensures { λ r. ⌜ r ≡ unpad (now (s .entry)) ⌝ }
+    ensures told { λ r. ⌜ r ≡ unpad (now (s .entry)) ⌝ }
+    ensures status { λ r. ⌜ unpaddedStatus r ≡ pick (isPadded (now (s .entry))) 0x9100 0x911E ⌝ }
 {
     if s.len() % 16 != 0 {
         return Unpadded::Wrong;

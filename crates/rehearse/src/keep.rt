@@ -39,23 +39,10 @@ fn name_of(fd: i32, room: &mut [u8]) -> usize
         return 0;
     }
     let mut p = [0u8; 4096];
-    let mut digits = [0u8; 20];
-    let n = io::decimal(fd as u64, &mut digits);
-    base::put(b"/proc/self/fd/", &mut p, 0);
-    base::put(&digits[..n], &mut p, 14);
+    let number = fd as u64;
+    forms::append_form(b"/proc/self/fd/#", &[number], &[true], &mut p, 0);
     p[4095] = 0;
     io::count(libc::readlink(&p, room), room)
-}
-
-// A path as it is, where the room takes it.
-fn as_named(path: &[u8], room: &mut [u8]) -> usize
-    ensures { λ r. ⌜ Counts r (now (room .exit)) ⌝ }
-{
-    if room.len() < path.len() {
-        return 0;
-    }
-    base::put(path, room, 0);
-    path.len()
 }
 
 // A file that can't be opened: its name where there is none yet, else 0, and why is said.
@@ -70,7 +57,7 @@ fn missing(path: &[u8], room: &mut [u8]) -> usize
         refuse(path, b"it is a link to a file that is not there");
         return 0;
     }
-    as_named(path, room)
+    forms::append(path, room, 0)
 }
 
 // The name of the file that a path leads to, links followed, at the front of the room; 0 where there is none, and why is said.
@@ -89,19 +76,8 @@ pub fn target(path: &[u8], room: &mut [u8]) -> usize
     n
 }
 
-// FILE.new is another run's, or was left behind by one.
-fn taken(name: &[u8]) {
-    refuse(
-        name,
-        b"it is there: another run has the tag, or one was stopped",
-    );
-    io::write_all(
-        STDERR_FILENO,
-        b"rehearse: where no run has it: if it has 672 bytes, it is the tag that the stopped run left; copy it over the file without .new. Then remove it\n",
-    );
-}
-
-// Makes FILE.new, for its owner alone since it will hold keys, and answers a descriptor; -1 where it is there already.
+// Makes FILE.new, for its owner alone since it will hold keys, and answers a descriptor; -1 where it is there already: it is another run's,
+// or was left behind by one.
 pub fn hold(name: &[u8]) -> i32 {
     let fd = os::create(name);
     if 0 <= fd {
@@ -109,7 +85,14 @@ pub fn hold(name: &[u8]) -> i32 {
         return fd;
     }
     if os::errno() == libc::EEXIST {
-        taken(name);
+        refuse(
+            name,
+            b"it is there: another run has the tag, or one was stopped",
+        );
+        io::write_all(
+            STDERR_FILENO,
+            b"rehearse: where no run has it: if it has 672 bytes, it is the tag that the stopped run left; copy it over the file without .new. Then remove it\n",
+        );
     } else {
         fail(name, b"nothing was rehearsed");
     }

@@ -3,16 +3,14 @@
 // --image FILE the tag is the one whose image FILE holds, and FILE holds its image then; where there is no FILE, it is made.
 ghost use Prim.Native.Nat.{_≤_};
 use arguments::Asked;
-use delivery::Made;
 use keeping::Begun;
 use keeping::Start;
+use libc::STDOUT_FILENO;
 use state::Tag;
-use walk::Tally;
+use tallies::Tally;
 
 mod keep;
-mod names;
 mod show;
-mod summary;
 mod walk;
 
 // A run: whether it took place, the tag behind it, and how it went.
@@ -20,22 +18,6 @@ struct Ran {
     ready: bool,
     tag: Tag,
     tally: Tally,
-}
-
-fn start_of(m: Made) -> Start {
-    match m {
-        Made::Fresh => Start::Ready,
-        Made::WrongUid => Start::NoUid,
-    }
-}
-
-// The fresh tag.
-fn anew(uid: &[u8; 7]) -> Begun {
-    let b = tag::fresh(uid);
-    let tag = b.tag;
-    let m = b.made;
-    let start = start_of(m);
-    Begun { start, tag }
 }
 
 // The tag of an open file. A byte more than an image has is read too, to see one that is too long.
@@ -46,30 +28,25 @@ fn resumed(fd: i32, uid: &[u8; 7]) -> Begun {
     keeping::kept(&s[..n], uid)
 }
 
-// A file that can't be read.
-fn unread(path: &[u8], uid: &[u8; 7]) -> Begun {
-    keep::fail(path, b"nothing was rehearsed");
-    let b = anew(uid);
-    let tag = b.tag;
-    Begun {
-        start: Start::Unread,
-        tag,
-    }
-}
-
 // The tag of the file, or a fresh one where there is no file or none is named.
 fn begin(path: &[u8], uid: &[u8; 7]) -> Begun {
+    let b = keeping::anew(uid);
     if path.len() == 0 {
-        return anew(uid);
+        return b;
     }
     let fd = os::open_read(path);
     if 0 <= fd {
         return resumed(fd, uid);
     }
     if os::errno() == libc::ENOENT {
-        return anew(uid);
+        return b;
     }
-    unread(path, uid)
+    keep::fail(path, b"nothing was rehearsed");
+    let tag = b.tag;
+    Begun {
+        start: Start::Unread,
+        tag,
+    }
 }
 
 // Says why nothing is rehearsed with the tag of a file.
@@ -87,15 +64,22 @@ fn complain(path: &[u8], number: u64, s: Start) {
     match s {
         Start::OtherLength => keep::refuse(path, b"it can't be read as an image of 672 bytes"),
         Start::OtherVersion => keep::refuse(path, b"its version is not 1"),
-        Start::NoUid => show::no_uid(number),
+        Start::NoUid => show::tell(
+            b"line #: it must be the tag's UID, 7 bytes in hexadecimal, the first of them 04; nothing was rehearsed\n",
+            &[number],
+            &[true],
+        ),
         _ => refused(path, s),
     }
 }
 
-fn is_ready(s: Start) -> bool {
-    match s {
-        Start::Ready => true,
-        _ => false,
+// No run took place.
+fn no_run(tag: Tag) -> Ran {
+    let tally = tallies::none();
+    Ran {
+        ready: false,
+        tag,
+        tally,
     }
 }
 
@@ -105,23 +89,22 @@ fn go_on(path: &[u8], b: Begun, text: &[u8], from: usize, number: u64) -> Ran
 {
     let s = b.start;
     let t = b.tag;
-    if is_ready(s) {
-        let w = walk::steps(t, text, from, number);
-        let tag = w.tag;
-        let tally = w.tally;
-        summary::print(tag);
-        return Ran {
-            ready: true,
-            tag,
-            tally,
-        };
-    }
-    complain(path, number, s);
-    let tally = walk::none();
-    Ran {
-        ready: false,
-        tag: t,
-        tally,
+    match s {
+        Start::Ready => {
+            let w = walk::steps(t, text, from, number);
+            let tag = w.tag;
+            let tally = w.tally;
+            show::summary(tag);
+            Ran {
+                ready: true,
+                tag,
+                tally,
+            }
+        }
+        _ => {
+            complain(path, number, s);
+            no_run(t)
+        }
     }
 }
 
@@ -131,7 +114,7 @@ fn first_tag(path: &[u8], line: &[u8]) -> Begun {
     if first_lines::line_uid(line, &mut uid) {
         return begin(path, &uid);
     }
-    anew(&uid)
+    keeping::anew(&uid)
 }
 
 // Rehearses a plan: the first line that is not blank is the UID.
@@ -143,24 +126,16 @@ fn run(path: &[u8], text: &[u8]) -> Ran {
     go_on(path, b, text, end + 1, h.number)
 }
 
-// No run took place.
-fn no_run() -> Ran {
-    let b = anew(&[0; 7]);
-    let tag = b.tag;
-    let tally = walk::none();
-    Ran {
-        ready: false,
-        tag,
-        tally,
-    }
-}
-
 // Reads a plan into a room that is larger than any, and rehearses it.
 fn play_in(path: &[u8], text: &mut [u8]) -> Ran {
     let n = io::read_full(0, text);
     if n == text.len() {
-        show::too_long();
-        return no_run();
+        io::write_all(
+            STDOUT_FILENO,
+            b"a plan has fewer than 262144 characters; nothing was rehearsed\n",
+        );
+        let b = keeping::anew(&[0; 7]);
+        return no_run(b.tag);
     }
     run(path, &text[..n])
 }
@@ -169,12 +144,6 @@ fn play_in(path: &[u8], text: &mut [u8]) -> Ran {
 fn play(path: &[u8]) -> Ran {
     let mut text = [0u8; 262144];
     play_in(path, &mut text)
-}
-
-// The same, and no tag is kept.
-fn play_plain() -> Tally {
-    let r = play(b"");
-    r.tally
 }
 
 // The same with FILE.new held: then it holds the tag, and the file does.
@@ -196,7 +165,7 @@ fn play_target(path: &[u8]) -> Tally {
     let n = arguments::beside(path, &mut name);
     let fd = keep::hold(&name[..n]);
     if fd < 0 {
-        return walk::none();
+        return tallies::none();
     }
     play_held(fd, path, &name[..n])
 }
@@ -211,11 +180,11 @@ fn play_kept() -> Tally {
             libc::STDERR_FILENO,
             b"rehearse: the FILE of --image is empty or too long; nothing was rehearsed\n",
         );
-        return walk::none();
+        return tallies::none();
     }
     let m = keep::target(&path[..n], &mut to);
     if m == 0 {
-        return walk::none();
+        return tallies::none();
     }
     play_target(&to[..m])
 }
@@ -238,27 +207,30 @@ fn refuse_argument(i: usize) {
     unknown(&a[..n]);
 }
 
+// What the arguments ask for.
+fn started(a: Asked) -> Tally {
+    match a {
+        Asked::Plain => {
+            let r = play(b"");
+            r.tally
+        }
+        Asked::Image => play_kept(),
+        Asked::NoFile => {
+            io::write_all(libc::STDERR_FILENO, b"rehearse: --image needs a FILE\n");
+            tallies::none()
+        }
+        Asked::Unknown(i) => {
+            refuse_argument(i);
+            tallies::none()
+        }
+    }
+}
+
 // Whether the first argument is --image.
 fn names_image() -> bool {
     let mut a = [0u8; 256];
     let n = os::arg(1, &mut a);
     base::alike(&a[..n], b"--image")
-}
-
-// What the arguments ask for.
-fn started(a: Asked) -> Tally {
-    match a {
-        Asked::Plain => play_plain(),
-        Asked::Image => play_kept(),
-        Asked::NoFile => {
-            io::write_all(libc::STDERR_FILENO, b"rehearse: --image needs a FILE\n");
-            walk::none()
-        }
-        Asked::Unknown(i) => {
-            refuse_argument(i);
-            walk::none()
-        }
-    }
 }
 
 fn main() {

@@ -18,7 +18,7 @@ pub struct Done {
 }
 
 // Bytes for a reply at the front of a room, and how many.
-pub struct Part {
+pub struct Excerpt {
     pub bytes: [u8; 258],
     pub length: usize,
 }

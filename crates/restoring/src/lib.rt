@@ -1,6 +1,9 @@
 // From an image to the state that it holds.
 ghost use mathlib.Core.Path.{_≡_};
-ghost use Rattle.image.specs.Answers.{readIn};
+ghost use lib.Dec.{eqb};
+ghost use Rattle.base.specs.Decide.{pick, and};
+ghost use Rattle.base.specs.Bytes.{byteAt};
+ghost use Rattle.image.specs.Answers.{foundNumber, bitsAt, booleans, rightLength, readIn};
 use image::Found;
 use image::Read;
 
@@ -8,7 +11,9 @@ mod parts;
 
 // The state that an image holds. Whether it is sound, `soundness::sound` judges.
 pub fn from_image(s: &[u8]) -> Read
-    ensures { λ r. ⌜ r ≡ readIn (now (s .entry)) ⌝ }
+    ensures told { λ r. ⌜ r ≡ readIn (now (s .entry)) ⌝ }
+    ensures number { λ r. ⌜ foundNumber (r .found)
+        ≡ pick (rightLength (now (s .entry))) (pick (and (eqb (byteAt (now (s .entry)) 0) 1) (bitsAt (now (s .entry)) booleans)) 0 1003) 1005 ⌝ }
 {
     if s.len() != 672 {
         return parts::refused(Found::WrongLength);

@@ -4,8 +4,8 @@ ghost use Rattle.rules.specs.Rules.{found, sdmRules, restRules, rules};
 ghost use Rattle.rules.specs.Numbers.{findingNumber, firstNumber};
 
 mod checks;
+mod findings;
 mod fits;
-mod order;
 mod records;
 
 use fields::Head;
@@ -54,19 +54,19 @@ fn sdm_broken(s: &[u8], h: Head) -> Finding
     ensures { λ r. ⌜ r ≡ found (sdmRules (now (s .entry)) h) ⌝ }
 {
     let p = fields::places_of(s, h);
-    let placed = order::positions(Settings { head: h, places: p });
-    let f8 = order::there(Part::Whole, s.len() == fields::size_of(h), placed);
-    let f7 = order::right(Check::EncNeeds, checks::enc_needs(h), f8);
-    let f6 = order::right(Check::MetaOff, checks::meta_off(h), f7);
-    let f5 = order::right(Check::MetaMirrors, checks::meta_mirrors(h), f6);
-    let f4 = order::right(Check::SdmRights, checks::sdm_rights(h), f5);
-    let f3 = order::there(Part::SdmRightsBytes, 6 <= s.len(), f4);
-    let f2 = order::right(
+    let placed = findings::positions(Settings { head: h, places: p });
+    let f8 = findings::there(Part::Whole, s.len() == fields::size_of(h), placed);
+    let f7 = findings::right(Check::EncNeeds, checks::enc_needs(h), f8);
+    let f6 = findings::right(Check::MetaOff, checks::meta_off(h), f7);
+    let f5 = findings::right(Check::MetaMirrors, checks::meta_mirrors(h), f6);
+    let f4 = findings::right(Check::SdmRights, checks::sdm_rights(h), f5);
+    let f3 = findings::there(Part::SdmRightsBytes, 6 <= s.len(), f4);
+    let f2 = findings::right(
         Check::SdmOptionsBits,
         checks::sdm_options_bits(base::at(s, 3)),
         f3,
     );
-    order::there(Part::SdmOptionsByte, 4 <= s.len(), f2)
+    findings::there(Part::SdmOptionsByte, 4 <= s.len(), f2)
 }
 
 // What follows the rights.
@@ -76,7 +76,7 @@ fn rest_broken(s: &[u8], h: Head) -> Finding
     if fields::sdm_on(s) {
         return sdm_broken(s, h);
     }
-    order::there(Part::Whole, s.len() == fields::size_of(h), Finding::Kept)
+    findings::there(Part::Whole, s.len() == fields::size_of(h), Finding::Kept)
 }
 
 // The first rule that a string breaks.
@@ -86,9 +86,9 @@ pub fn broken(file: u8, s: &[u8]) -> Finding
 {
     let h = fields::head_of(s);
     let f6 = rest_broken(s, h);
-    let f5 = order::right(Check::Rights, checks::rights_kept(h), f6);
-    let f4 = order::there(Part::RightsBytes, 3 <= s.len(), f5);
-    let f3 = order::right(Check::SdmFile, checks::sdm_file(file, h), f4);
-    let f2 = order::right(Check::OptionBits, checks::option_bits(base::at(s, 0)), f3);
-    order::there(Part::OptionByte, 1 <= s.len(), f2)
+    let f5 = findings::right(Check::Rights, checks::rights_kept(h), f6);
+    let f4 = findings::there(Part::RightsBytes, 3 <= s.len(), f5);
+    let f3 = findings::right(Check::SdmFile, checks::sdm_file(file, h), f4);
+    let f2 = findings::right(Check::OptionBits, checks::option_bits(base::at(s, 0)), f3);
+    findings::there(Part::OptionByte, 1 <= s.len(), f2)
 }

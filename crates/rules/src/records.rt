@@ -3,8 +3,8 @@ ghost use mathlib.Core.Path.{_≡_};
 ghost use Rattle.rules.specs.Rules.{kept, sdmMeets, sdmAbsent, sdmPart, modes, meets};
 use super::Finding;
 use super::checks;
+use super::findings;
 use super::fits;
-use super::order;
 use fields::Head;
 use fields::Settings;
 
@@ -28,7 +28,7 @@ fn sdm_meets(r: Settings) -> bool
     );
     truth::both(
         truth::both(checks::sdm_rights(h), mirrors),
-        is_kept(order::positions(r)),
+        is_kept(findings::positions(r)),
     )
 }
 

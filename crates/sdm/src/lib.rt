@@ -1,11 +1,11 @@
 // Secure Dynamic Messaging (9.3): PICCData, and the keys, the vector and the codes of a tap, over the promises of `aes`.
-mod taps;
+mod codes;
 
-pub use taps::picc_data;
-pub use taps::tap_encrypt;
-pub use taps::tap_iv;
-pub use taps::tap_keys;
-pub use taps::tap_mac;
+pub use codes::picc_data;
+pub use codes::tap_encrypt;
+pub use codes::tap_iv;
+pub use codes::tap_keys;
+pub use codes::tap_mac;
 
 // A tap: its UID and its counter, and whether they are mirrored.
 pub struct Tap {

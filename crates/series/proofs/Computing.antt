@@ -1,7 +1,7 @@
 -- Groups of definitions that examples compute through: to unfold a group is to unfold all that its line names.
 use mathlib.Core.Bool.{Bool, true}
 use Rattle.base.specs.Bytes.{same, laid, number, low}
-use Rattle.messaging.specs.Protect.{content, signed, sent, macRight}
+use Rattle.messaging.specs.Protect.{content, signed, sent, macRight, modeNumber}
 use Rattle.opening.specs.Command.{partRight, lengthRight, checked, opening, openedStatus}
 use Rattle.closing.specs.Reply.{closed, closedLength, overlong}
 use Rattle.fields.specs.Fields.{sdmOn, sdmByte, modeOf, headOf, hasUid, hasCounter, hasPicc, hasMac, hasEnc, present}
@@ -56,7 +56,7 @@ soundness = true
 
 -- a command: access, message, answer
 unfoldable pub access : Bool
-unfolding granted readGrant changeGrant fileMode accessFor accessStatus grantStatus
+unfolding granted readGrant changeGrant modeNumber fileMode accessFor accessStatus grantStatus
 access = true
 
 unfoldable pub a-message : Bool

@@ -98,7 +98,7 @@ pub fn sound(t: Tag) -> bool
     let uid = t.uid;
     let rules = t.files.rules;
     let lens = t.files.lens;
-    let sdm = state::head_of(&rules, lens, 2).sdm;
+    let sdm = state::head_in(&rules, lens, 2).sdm;
     both(
         rules_sound(&rules, lens, 1),
         both(

@@ -6,12 +6,12 @@ mod parts;
 pub use parts::ended;
 pub use parts::file_size;
 pub use parts::file_start;
-pub use parts::head_of;
+pub use parts::head_in;
 pub use parts::key_of;
 pub use parts::no_live;
 pub use parts::no_pending;
 pub use parts::quiet;
-pub use parts::reading_of;
+pub use parts::reading_in;
 pub use parts::slot_of;
 pub use parts::string_in;
 

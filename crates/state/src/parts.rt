@@ -71,14 +71,14 @@ pub fn string_in(rules: &[u8; 81], lens: [u8; 3], n: u8) -> &[u8]
 }
 
 // What the fields in front of a file's settings string mean.
-pub fn head_of(rules: &[u8; 81], lens: [u8; 3], n: u8) -> Head
+pub fn head_in(rules: &[u8; 81], lens: [u8; 3], n: u8) -> Head
     ensures { λ r. ⌜ r ≡ headIn (now (rules .entry)) lens n ⌝ }
 {
     fields::head_of(string_in(rules, lens, n))
 }
 
 // What a file's settings mean.
-pub fn reading_of(f: Files, n: u8) -> Reading
+pub fn reading_in(f: Files, n: u8) -> Reading
     ensures { λ r. ⌜ r ≡ readingIn f n ⌝ }
 {
     let rules = f.rules;

@@ -13,7 +13,7 @@ use state::Tag;
 use tag::Outcome;
 
 // A reply of ours, n bytes at the front of the room: whether it is another than the logged one. Then both are printed.
-fn compared(number: u64, logged: &[u8], room: &[u8], n: usize) -> bool
+fn is_another(number: u64, logged: &[u8], room: &[u8], n: usize) -> bool
     ensures { λ r. ⌜ r ≡ another (now (logged .entry)) (now (room .entry)) n ⌝ }
 {
     if room.len() < n {
@@ -52,7 +52,7 @@ fn judged(number: u64, logged: &[u8], outcome: Outcome, room: &[u8], n: usize) -
 {
     let refusal = refusal_of(outcome);
     if refusal == 0 {
-        return compared(number, logged, room, n);
+        return is_another(number, logged, room, n);
     }
     refused(number, logged, refusal)
 }

@@ -15,7 +15,7 @@ use Rattle.mirror.specs.Mirrors.{laidOf}
 use Rattle.state.specs.declared.Tag.{Tag}
 use Rattle.state.specs.declared.Tapping.{Tapping}
 use Rattle.state.specs.State.{fileOf, tapped}
-use Rattle.replies.specs.declared.Part.{Part}
+use Rattle.replies.specs.declared.Excerpt.{Excerpt}
 use Rattle.replies.specs.Answer.{given, refusal}
 use Rattle.file_parts.specs.Filing.{partOf}
 use Rattle.file_parts.proofs.Parts.{part-given}
@@ -71,7 +71,7 @@ module _ (t : Tag) (r : Reading) (iso : Bool) (random : List ℕ) (going : Bool)
 
 -- ---- what a tap gives
 module _ (t : Tag) (s : Shown) (accepting refusing at n : ℕ) where
-  pub reads-shown : (p : Part) → s .status ≡ 0 → length (s .bytes) ≡ 256 → p ≡ partOf (s .bytes) at n
+  pub reads-shown : (p : Excerpt) → s .status ≡ 0 → length (s .bytes) ≡ 256 → p ≡ partOf (s .bytes) at n
       → given (tapped t (s .tap)) accepting (take (min (p .length) 256) (p .bytes)) ≡ tapRead t s accepting refusing at n
   unfolding tapRead
   reads-shown p e l h =

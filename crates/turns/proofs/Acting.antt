@@ -9,17 +9,15 @@ use borrow.Author.Tests.{eqb-true}
 use Rattle.base.specs.Decide.{pick}
 use Rattle.state.specs.declared.Tag.{Tag}
 use Rattle.first_lines.specs.Said.{said}
-use Rattle.plans.specs.Plan.{lineCommand, lineRandom, lineExpected}
-use Rattle.plans.specs.declared.Line.{Line}
 use Rattle.plans.specs.declared.Meaning.{Meaning}
 use Rattle.plans.specs.declared.Meaning.the-variants.{Blank, Drawn, Given, Bad}
 use Rattle.tag.specs.Call.{answered, outcomeOf, byOutcome, roomBy}
 use Rattle.tag.specs.declared.Called.{Called}
 use Rattle.verdict.specs.Replies.{statusIn, refusing, differing}
-use Rattle.turns.specs.declared.Went.{Went}
+use Rattle.tallies.specs.declared.Went.{Went}
 use Rattle.turns.specs.declared.Turn.{Turn}
 use Rattle.turns.specs.declared.Acted.{Acted}
-use Rattle.turns.specs.Steps.{nextOf, replyTo, wentBy, toldBy, played, stays, Drew, Draws, Carried, CarriedLine, lineIn, Stepped}
+use Rattle.turns.specs.Steps.{nextOf, replyTo, wentBy, toldBy, played, stays, Drew, Draws, Carried}
 use Rattle.turns.specs.Acts.{actedOf, playedAs, silent, drawnBy, actedBy}
 
 -- what is said of a command, by what was computed for it
@@ -105,10 +103,3 @@ acted-carried Blank t c random expected drawn = silent-turn (stays t false false
 acted-carried (Bad e) t c random expected drawn = silent-turn (stays t true false)
 acted-carried (Drawn n) t c random expected drawn = drawn-carried n t c expected drawn
 acted-carried (Given n) t c random expected drawn = played-turn t (take n c) random expected
-
--- a line by what it was read as
-pub stepped-is : (t : Tag) (line : List ℕ) (l : Line) (c x w : List ℕ) (r : Turn) → l ≡ lineIn (said line)
-    → c ≡ lineCommand (said line) (replicate 512 0) → x ≡ lineRandom (said line) (replicate 20 0)
-    → w ≡ lineExpected (said line) (replicate 258 0) → CarriedLine l t c x w r → Stepped t line r
-unfolding Stepped
-stepped-is t line l c x w r p q s u h = rw (sym p, sym q, sym s, sym u) h

@@ -14,7 +14,7 @@ use Rattle.plans.specs.declared.Line.{Line}
 use Rattle.plans.specs.declared.Meaning.{Meaning}
 use Rattle.plans.specs.declared.Meaning.the-variants.{Blank, Drawn, Given, Bad}
 use Rattle.verdict.specs.Replies.{statusIn, refusing, differing}
-use Rattle.turns.specs.declared.Went.{Went}
+use Rattle.tallies.specs.declared.Went.{Went}
 use Rattle.turns.specs.declared.Turn.{Turn}
 
 -- the tag behind a command

@@ -1,22 +1,14 @@
-// What a line of a plan does to the tag, and what is said of it.
+// A line of a plan: what it does to the tag, and what is printed of it.
 ghost use mathlib.Core.Path.{_≡_};
 ghost use Prim.Native.Nat.{_≤_};
 ghost use lib.ListN.{take};
 ghost use Rattle.turns.specs.Steps.{wentBy, stays};
 ghost use Rattle.turns.specs.Acts.{playedAs, silent, drawnBy, actedBy};
+ghost use Rattle.turns.specs.Lines.{toldOf, lineActed, lineTold};
+ghost use Rattle.forms.specs.Rooms.{Lays};
 use plans::Meaning;
 use state::Tag;
-
-// What a line did: a command was played, its reply refused; the line was skipped, since the machine gave no random bytes; it expected
-// something, and the reply was not that.
-pub struct Went {
-    pub played: bool,
-    pub refused: bool,
-    pub skipped: bool,
-    pub undrawn: bool,
-    pub expecting: bool,
-    pub unmet: bool,
-}
+use tallies::Went;
 
 // The tag behind a line.
 pub struct Turn {
@@ -29,6 +21,12 @@ pub struct Acted {
     pub turn: Turn,
     pub length: usize,
     pub room: [u8; 258],
+}
+
+// The turn, and how much of the room its text takes.
+pub struct Taken {
+    pub turn: Turn,
+    pub length: usize,
 }
 
 // What is said of a command that was played, by its reply and what was expected of it.
@@ -108,7 +106,7 @@ fn drawn(tag: Tag, n: usize, c: &[u8], d: &[u8], e: &[u8]) -> Acted
 
 // What a line asks for is done: the command is the first bytes of c, x are the random bytes that it brings, e is what it expects, and d
 // are the machine's random bytes.
-pub fn carry_out(tag: Tag, m: Meaning, c: &[u8], x: &[u8], e: &[u8], d: &[u8]) -> Acted
+fn carry_out(tag: Tag, m: Meaning, c: &[u8], x: &[u8], e: &[u8], d: &[u8]) -> Acted
     ensures told { λ r. ⌜ r ≡ actedBy m tag (now (c .entry)) (now (x .entry)) (now (e .entry)) (now (d .entry)) ⌝ }
     ensures short { λ r. ⌜ r .length ≤ 258 ⌝ }
 {
@@ -118,4 +116,46 @@ pub fn carry_out(tag: Tag, m: Meaning, c: &[u8], x: &[u8], e: &[u8], d: &[u8]) -
         Meaning::Drawn(n) => drawn(tag, n, c, d, e),
         Meaning::Given(n) => front(tag, n, c, x, e),
     }
+}
+
+// What a line asks for is done and told: its command is the first bytes of c, x are the random bytes that it brings, e is what it
+// expects, and d are the machine's random bytes.
+fn turned(
+    tag: Tag,
+    number: u64,
+    m: Meaning,
+    c: &[u8],
+    x: &[u8],
+    e: &[u8],
+    d: &[u8],
+    room: &mut [u8],
+) -> Taken
+    ensures turn { λ r. ⌜ r .turn ≡ actedBy m tag (now (c .entry)) (now (x .entry)) (now (e .entry)) (now (d .entry)) .turn ⌝ }
+    ensures text { λ r. ⌜ Lays (toldOf number m (now (c .entry)) (now (e .entry))
+        (actedBy m tag (now (c .entry)) (now (x .entry)) (now (e .entry)) (now (d .entry)))) 0 (now (room .entry)) (r .length) (now (room .exit)) ⌝ }
+{
+    let a = carry_out(tag, m, c, x, e, d);
+    let turn = a.turn;
+    let n = a.length;
+    let reply = a.room;
+    let went = turn.went;
+    let length = telling::line_text(number, m, c, &reply[..n], e, went.undrawn, went.unmet, room);
+    Taken { turn, length }
+}
+
+// The line with this number, by the machine's random bytes: 20, or any other number of them where it gives none.
+pub fn take_turn(tag: Tag, number: u64, line: &[u8], d: &[u8], room: &mut [u8]) -> Taken
+    ensures turn { λ r. ⌜ r .turn ≡ lineActed tag (now (line .entry)) (now (d .entry)) .turn ⌝ }
+    ensures text { λ r. ⌜ Lays (lineTold number tag (now (line .entry)) (now (d .entry))) 0 (now (room .entry)) (r .length) (now (room .exit)) ⌝ }
+{
+    let mut c = [0u8; 512];
+    let mut x = [0u8; 20];
+    let mut w = [0u8; 258];
+    let l = plans::line_meaning(line, &mut c, &mut x, &mut w);
+    let m = l.meaning;
+    let n = l.expected;
+    if n < 258 {
+        return turned(tag, number, m, &c, &x, &w[..n], d, room);
+    }
+    turned(tag, number, m, &c, &x, &w, d, room)
 }

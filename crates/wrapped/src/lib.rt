@@ -102,7 +102,7 @@ fn from_step_5(tag: Tag, ins: u8, x: &[u8], random: [u8; 20]) -> Done
     }
     let rules = tag.files.rules;
     let lens = tag.files.lens;
-    let h = state::head_of(&rules, lens, base::at(x, 0));
+    let h = state::head_in(&rules, lens, base::at(x, 0));
     let a = access::access_for(ins, tag.live, h);
     match a {
         Access::Never => replies::refuse(tag, 0x919D),

@@ -7,8 +7,8 @@ use Rattle.binaries.specs.Binaries.{mayPass, mayUse}
 use Rattle.binaries.proofs.may_use.Statement.{statement}
 use Rattle.binaries.proofs.may_use.Tie as tie
 
-head-of-requires : tie.Need-head-of-requires
-head-of-requires c κs = search needs
+head-in-requires : tie.Need-head-in-requires
+head-in-requires c κs = search needs
 
 access-for-requires : tie.Need-access-for-requires
 access-for-requires c κs = search needs
@@ -23,7 +23,7 @@ returns c =
     let a = c6 .args in
     c .may .ensures ∙ ap (mayPass (a .tag .live))
     (c .before .access-for .ensures ∙ ap (accessFor (a .ins) (a .tag .live))
-    (c .before .before .head-of .ensures ∙ head-there (a .tag .files) (a .tag .place .file)))
+    (c .before .before .head-in .ensures ∙ head-there (a .tag .files) (a .tag .place .file)))
 
 pub may-use-spec : {M : Type 1} → statement M
-may-use-spec = tie.close (tie.spec head-of-requires access-for-requires may-requires returns)
+may-use-spec = tie.close (tie.spec head-in-requires access-for-requires may-requires returns)

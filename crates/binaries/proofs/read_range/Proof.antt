@@ -41,8 +41,8 @@ returns-2 c =
       lt-ltb (c .before .before .before .file-size .result - a .at) (a .le) (c .before .if2 .taken),
     ) (c .refuse2 .ensures)
 
-reading-of-requires : tie.Need-reading-of-requires
-reading-of-requires c κs = search needs
+reading-in-requires : tie.Need-reading-in-requires
+reading-in-requires c κs = search needs
 
 all-or-requires : tie.Need-all-or-requires
 all-or-requires c κs = search needs
@@ -60,7 +60,7 @@ returns-3 c =
       ← c5 .file-size .ensures,
       lt-leb (c5 .file-size .result) (a .at) (c .before .before .before .before .if1 .left),
       le-ltb (c5 .file-size .result - a .at) (a .le) (c .before .before .before .if2 .left),
-      ← c .before .before .reading-of .ensures,
+      ← c .before .before .reading-in .ensures,
       ← c .before .all-or .ensures,
     ) (c .iso-part .ensures)
 
@@ -76,7 +76,7 @@ read-range-spec =
     add-refuse
     refuse-requires-2
     returns-2
-    reading-of-requires
+    reading-in-requires
     all-or-requires
     iso-part-requires
     returns-3)

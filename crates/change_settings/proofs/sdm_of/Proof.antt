@@ -5,11 +5,11 @@ use Rattle.fields.specs.declared.Head.{Head}
 use Rattle.change_settings.proofs.sdm_of.Statement.{statement}
 use Rattle.change_settings.proofs.sdm_of.Tie as tie
 
-head-of-requires : tie.Need-head-of-requires
-head-of-requires c κs = search needs
+head-in-requires : tie.Need-head-in-requires
+head-in-requires c κs = search needs
 
 returns : tie.Need-returns
-returns c = ap (λ (h : Head). h .sdm) (c .head-of .ensures)
+returns c = ap (λ (h : Head). h .sdm) (c .head-in .ensures)
 
 pub sdm-of-spec : {M : Type 1} → statement M
-sdm-of-spec = tie.close (tie.spec head-of-requires returns)
+sdm-of-spec = tie.close (tie.spec head-in-requires returns)

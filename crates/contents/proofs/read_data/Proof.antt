@@ -17,8 +17,8 @@ file-size-requires c κs = search needs
 range-status-requires : tie.Need-range-status-requires
 range-status-requires c κs = search needs
 
-reading-of-requires : tie.Need-reading-of-requires
-reading-of-requires c κs = search needs
+reading-in-requires : tie.Need-reading-in-requires
+reading-in-requires c κs = search needs
 
 asked-for-requires : tie.Need-asked-for-requires
 asked-for-requires c κs = search needs
@@ -39,7 +39,7 @@ returns c =
       ← c4 .range-status .ensures,
       eq-eqb (c4 .range-status .result) 0 (c .before .before .before .if1 .taken),
       ← c .before .asked-for .ensures,
-      ← c .before .before .reading-of .ensures,
+      ← c .before .before .reading-in .ensures,
     ) (c .wrapped-part .ensures)
 
 refuse-requires : tie.Need-refuse-requires
@@ -64,7 +64,7 @@ read-data-spec =
     three-at-requires-2
     file-size-requires
     range-status-requires
-    reading-of-requires
+    reading-in-requires
     asked-for-requires
     wrapped-part-requires
     returns

@@ -24,7 +24,7 @@ returns c =
     let c7 = c .before .before .before .before .before .before .before in
     let c9 = c7 .before .before in
     let a = c9 .args in
-    keeps (a .s .now) (a .uid .now) (c7 .from-image .result) _ _ _ (c7 .from-image .ensures)
+    keeps (a .s .now) (a .uid .now) (c7 .from-image .result) _ _ _ (c7 .from-image .ensures .0)
     (c .before .before .before .before .sound .ensures) (c .before .alike .ensures) (c .judged .ensures)
 
 pub kept-spec : {M : Type 1} → statement M

@@ -38,23 +38,27 @@ returns c =
     let c4 = c .before .before .before .before in
     let c5 = c4 .before in
     let c6 = c5 .before in
-    let c9 = c6 .before .before .before in (
-      rw (sym (c6 .is-hex .ensures) ∙ c5 .if1 .taken, le-leb _ _ (c4 .if2 .taken)) refl,
-      rw (sym (c6 .is-hex .ensures) ∙ c5 .if1 .taken, le-leb _ _ (c4 .if2 .taken))
-          (ap₂ (λ b k. b ++ drop k (c9 .args .room .now)) (c .before .before .fill .ensures)
-          (sym (bytes-half (c9 .args .text .now) (sym (c6 .is-hex .ensures) ∙ c5 .if1 .taken)))),
+    let c9 = c6 .before .before .before in
+    let hex = sym (c6 .is-hex .ensures) ∙ c5 .if1 .taken in (
+      rw (hex, le-leb _ _ (c4 .if2 .taken)) refl,
+      (
+        rw (hex, le-leb _ _ (c4 .if2 .taken))
+            (ap₂ (λ b k. b ++ drop k (c9 .args .room .now)) (c .before .before .fill .ensures) (sym (bytes-half (c9 .args .text .now) hex))),
+        rw (hex, le-leb _ _ (c4 .if2 .taken)) refl,
+      ),
     )
 
 returns-2 : tie.Need-returns-2
 unfolding decoded decodedRoom
-returns-2 c = (
-  rw (sym (c .before .before .is-hex .ensures) ∙ c .before .if1 .taken, lt-leb _ _ (c .if2 .left)) refl,
-  rw (sym (c .before .before .is-hex .ensures) ∙ c .before .if1 .taken, lt-leb _ _ (c .if2 .left)) refl,
-)
+returns-2 c =
+    let hex = sym (c .before .before .is-hex .ensures) ∙ c .before .if1 .taken in
+    (rw (hex, lt-leb _ _ (c .if2 .left)) refl, (rw (hex, lt-leb _ _ (c .if2 .left)) refl, rw (hex, lt-leb _ _ (c .if2 .left)) refl))
 
 returns-3 : tie.Need-returns-3
 unfolding decoded decodedRoom
-returns-3 c = (rw (sym (c .before .is-hex .ensures) ∙ c .if1 .left) refl, rw (sym (c .before .is-hex .ensures) ∙ c .if1 .left) refl)
+returns-3 c =
+    let none = sym (c .before .is-hex .ensures) ∙ c .if1 .left in
+    (rw none refl, (rw none refl, rw none refl))
 
 pub decode-spec : {M : Type 1} → statement M
 decode-spec =

@@ -35,7 +35,7 @@ returns-2 c =
     (c .before .before .before .before .before .enum-told .given .1)
     (c .before .before .before .before .before .before .before .before .if1 .left) refl
     (image-laid _ (a .state .now) _ (c .before .before .before .before .before .before .before .before .if1 .left)
-    (c .before .before .to-image .ensures .1))
+    (c .before .before .to-image .ensures .1 .0))
 
 returns-3 : tie.Need-returns-3
 unfolding makingNumber madeNumber

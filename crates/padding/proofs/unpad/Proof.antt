@@ -1,4 +1,5 @@
 -- `padding::unpad` meets its contract: what is still to look at decides.
+use Rattle.padding.proofs.Padding.{told-status}
 use Rattle.padding.proofs.Unpadding.{mark-step}
 use Rattle.padding.specs.Padding.{mark, unpad, blocks}
 use borrow.Author.Tests.{eq-eqb, ne-eqb, le-leb, lt-leb}
@@ -17,11 +18,13 @@ abbrev μ-loop : tie.MeasureT-loop
 
 returns : tie.Need-returns Inv-loop μ-loop
 unfolding unpad blocks
-returns c = rw (ne-eqb _ _ (c .if1 .taken)) refl
+returns c = told-status (c .before .args .s .now) _ (rw (ne-eqb _ _ (c .if1 .taken)) refl)
 
 returns-2 : tie.Need-returns-2 Inv-loop μ-loop
 unfolding unpad blocks
-returns-2 c = rw (eq-eqb _ _ (c .before .if1 .left), lt-leb 16 (length (c .before .before .args .s .now)) (omega arith)) refl
+returns-2 c =
+    let s = c .before .before .args .s .now in
+    told-status s _ (rw (eq-eqb _ _ (c .before .if1 .left), lt-leb 16 (length s) (omega arith)) refl)
 
 loop-holds : tie.Need-loop-holds Inv-loop μ-loop
 unfolding unpad blocks
@@ -40,14 +43,16 @@ returns-3 : tie.Need-returns-3 Inv-loop μ-loop
 returns-3 c =
     let c3 = c .before .before .before in
     let c6 = c3 .before .before .before in
-    sym (c3 .loop .inv .2 ∙ mark-step (c3 .loop .left) (c6 .args .s .now) (c3 .loop .n) (omega arith) ∙ rw (eq-eqb _ _ (c .if3 .taken)) refl)
+    told-status (c6 .args .s .now) _
+    (sym (c3 .loop .inv .2 ∙ mark-step (c3 .loop .left) (c6 .args .s .now) (c3 .loop .n) (omega arith) ∙ rw (eq-eqb _ _ (c .if3 .taken)) refl))
 
 returns-4 : tie.Need-returns-4 Inv-loop μ-loop
 returns-4 c =
     let c4 = c .before .before .before .before in
     let c7 = c4 .before .before .before in
-    sym (c4 .loop .inv .2 ∙ mark-step (c4 .loop .left) (c7 .args .s .now) (c4 .loop .n) (omega arith)
-    ∙ rw (ne-eqb _ _ (c .before .if3 .left), ne-eqb _ _ (c .if4 .taken)) refl)
+    told-status (c7 .args .s .now) _
+    (sym (c4 .loop .inv .2 ∙ mark-step (c4 .loop .left) (c7 .args .s .now) (c4 .loop .n) (omega arith)
+    ∙ rw (ne-eqb _ _ (c .before .if3 .left), ne-eqb _ _ (c .if4 .taken)) refl))
 
 sub-n : tie.Need-sub-n Inv-loop μ-loop
 sub-n c = omega arith
@@ -70,7 +75,9 @@ loop-again c =
 
 returns-5 : tie.Need-returns-5 Inv-loop μ-loop
 unfolding mark
-returns-5 c = sym (c .before .loop .inv .2 ∙ (let e : c .before .loop .left ≡ 0 = omega arith in rw e refl))
+returns-5 c =
+    let c4 = c .before .before .before .before in
+    told-status (c4 .args .s .now) _ (sym (c .before .loop .inv .2 ∙ (let e : c .before .loop .left ≡ 0 = omega arith in rw e refl)))
 
 pub unpad-spec : {M : Type 1} → statement M
 unpad-spec =

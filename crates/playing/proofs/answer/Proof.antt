@@ -40,7 +40,7 @@ returns c =
     (c .before .before .before .before .before .before .before .before .before .call .ensures)
     (c .before .before .before .before .before .enum-told .given .1)
     (c .before .before .before .before .before .before .before .before .before .before .before .before .before .before .before .pre)
-    (c .before .before .to-image .ensures .1)
+    (c .before .before .to-image .ensures .1 .0)
 
 same-length-3 : tie.Need-same-length-3
 same-length-3 c = search needs

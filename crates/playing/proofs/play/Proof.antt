@@ -26,7 +26,7 @@ returns-2 c =
     in
     plays (a .state .now) (a .command .now) (a .random .now) (a .room .now) _ _ _ _
     (c .before .before .before .before .before .before .before .before .before .before .if1 .left)
-    (ap (λ x. x .tag) (c .before .before .before .before .before .before .before .before .from-image .ensures))
+    (ap (λ x. x .tag) (c .before .before .before .before .before .before .before .before .from-image .ensures .0))
     (c .before .before .before .before .answer .ensures)
 
 pub play-spec : {M : Type 1} → statement M

@@ -22,7 +22,8 @@ array-share-prefix-name c =
 
 slice-aggregate-hold : tie.Need-slice-aggregate-hold
 slice-aggregate-hold c =
-    let h : c .before .before .beside .result ≤ 4096 = beside-fits (c .before .before .before .before .before .args .path .now) (replicate 4096 0) refl (c .before .before .beside .ensures .0) in
+    let h : c .before .before .beside .result ≤ 4096 = beside-fits (c .before .before .before .before .before .args .path .now) (replicate 4096 0)
+    refl (c .before .before .beside .ensures .0) in
     let k : length (c .before .before .beside .last .1 .0) ≡ 4096 = search needs in
     simp length-take (omega arith)
 

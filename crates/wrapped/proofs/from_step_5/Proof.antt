@@ -23,8 +23,8 @@ returns c =
 at-requires : tie.Need-at-requires
 at-requires c κs = search needs
 
-head-of-requires : tie.Need-head-of-requires
-head-of-requires c κs = search needs
+head-in-requires : tie.Need-head-in-requires
+head-in-requires c κs = search needs
 
 access-for-requires : tie.Need-access-for-requires
 access-for-requires c κs = search needs
@@ -58,8 +58,8 @@ returns-2 c =
     let a = c12 .args in
     gives-as (c .refuse2 .ensures) (ap (onAccess (a .tag) (a .ins) (a .x .now) (a .random))
     (sym (c .before .enum-told .given .1)) ∙ step-5-access (a .tag) (a .ins) (a .x .now) (a .random)
-    (c10 .front-status .result) (c10 .front-status .ensures) (c9 .if1 .left) (c5 .at .result) (c4 .head-of .result)
-    (c .before .before .before .access-for .result) (c5 .at .ensures) (c4 .head-of .ensures)
+    (c10 .front-status .result) (c10 .front-status .ensures) (c9 .if1 .left) (c5 .at .result) (c4 .head-in .result)
+    (c .before .before .before .access-for .result) (c5 .at .ensures) (c4 .head-in .ensures)
     (c .before .before .before .access-for .ensures))
 
 returns-3 : tie.Need-returns-3
@@ -73,8 +73,8 @@ returns-3 c =
     let a = c12 .args in
     gives-as (c .refuse3 .ensures) (ap (onAccess (a .tag) (a .ins) (a .x .now) (a .random))
     (sym (c .before .enum-told2 .given .1)) ∙ step-5-access (a .tag) (a .ins) (a .x .now) (a .random)
-    (c10 .front-status .result) (c10 .front-status .ensures) (c9 .if1 .left) (c5 .at .result) (c4 .head-of .result)
-    (c .before .before .before .access-for .result) (c5 .at .ensures) (c4 .head-of .ensures)
+    (c10 .front-status .result) (c10 .front-status .ensures) (c9 .if1 .left) (c5 .at .result) (c4 .head-in .result)
+    (c .before .before .before .access-for .result) (c5 .at .ensures) (c4 .head-in .ensures)
     (c .before .before .before .access-for .ensures))
 
 returns-4 : tie.Need-returns-4
@@ -88,10 +88,10 @@ returns-4 c =
     let a = c13 .args in
     gives-as (c .from-step-7 .ensures) (ap (onAccess (a .tag) (a .ins) (a .x .now) (a .random))
     (sym (c .before .before .a .given .1)) ∙ step-5-access (a .tag) (a .ins) (a .x .now) (a .random)
-    (c11 .front-status .result) (c11 .front-status .ensures) (c10 .if1 .left) (c6 .at .result) (c5 .head-of .result)
-    (c4 .access-for .result) (c6 .at .ensures) (c5 .head-of .ensures) (c4 .access-for .ensures))
+    (c11 .front-status .result) (c11 .front-status .ensures) (c10 .if1 .left) (c6 .at .result) (c5 .head-in .result)
+    (c4 .access-for .result) (c6 .at .ensures) (c5 .head-in .ensures) (c4 .access-for .ensures))
 
 pub from-step-5-spec : {M : Type 1} → statement M
 from-step-5-spec =
-    tie.close (tie.spec front-status-requires refuse-requires returns at-requires head-of-requires access-for-requires enum-told
+    tie.close (tie.spec front-status-requires refuse-requires returns at-requires head-in-requires access-for-requires enum-told
     refuse-requires-2 enum-told-2 refuse-requires-3 enum-known-a from-step-7-requires returns-2 returns-3 returns-4)

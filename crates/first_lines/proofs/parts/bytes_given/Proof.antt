@@ -32,7 +32,7 @@ returns-2 c =
     let c9 = c6 .before .before .before in
     let a = c9 .args in (
       rw (eq-eqb _ _ (c6 .if1 .left), sym (c5 .is-hex .ensures) ∙ c4 .if2 .taken) refl,
-      c .before .before .decode .ensures .1
+      c .before .before .decode .ensures .1 .0
           ∙ rw (
             eq-eqb _ _ (c6 .if1 .left),
             sym (c5 .is-hex .ensures) ∙ c4 .if2 .taken,

@@ -22,7 +22,7 @@ slice-aggregate-give c =
     let c7 = c4 .before .before .before in
     let s = c7 .args .s .now in
     let n = c .before .before .n .given .0 .0 in
-    sym (length-take-le n s (omega (arith, unpad-below s n (sym (c4 .unpad .ensures) ∙ c .before .before .n .given .1))))
+    sym (length-take-le n s (omega (arith, unpad-below s n (sym (c4 .unpad .ensures .0) ∙ c .before .before .n .given .1))))
 
 give-requires : tie.Need-give-requires
 give-requires c κs = simp length-take (omega arith)
@@ -40,10 +40,10 @@ returns c =
     let c11 = c8 .before .before .before in
     let a = c11 .args in
     subst (λ o. OpensInto o (a .room .now) (c .before .before .give .result) (c .before .before .give .last .1 .0))
-    (sym (ap (textOf (a .s .now)) (sym (c8 .unpad .ensures) ∙ c6 .n .given .1))) (c .before .before .give .ensures)
+    (sym (ap (textOf (a .s .now)) (sym (c8 .unpad .ensures .0) ∙ c6 .n .given .1))) (c .before .before .give .ensures)
 
 returns-2 : tie.Need-returns-2
-returns-2 c = rw (sym (c .before .before .unpad .ensures) ∙ c .enum-told .given .1) (record { answer = refl; room = refl })
+returns-2 c = rw (sym (c .before .before .unpad .ensures .0) ∙ c .enum-told .given .1) (record { answer = refl; room = refl })
 
 pub give-text-spec : {M : Type 1} → statement M
 give-text-spec =

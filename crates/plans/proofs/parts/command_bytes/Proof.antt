@@ -53,7 +53,7 @@ returns-3 c =
             ∙ c .before .d .given .1,
       ) refl,
       (
-        c5 .decode .ensures .1
+        c5 .decode .ensures .1 .0
             ∙ rw (ne-eqb _ _ (c9 .if1 .left), sym (c8 .stray .ensures) ∙ c7 .if2 .left) refl,
         rw (
           ne-eqb _ _ (c9 .if1 .left),
@@ -80,7 +80,7 @@ returns-4 c =
             ∙ c .enum-told .given .1,
       ) refl,
       (
-        c4 .decode .ensures .1
+        c4 .decode .ensures .1 .0
             ∙ rw (ne-eqb _ _ (c8 .if1 .left), sym (c7 .stray .ensures) ∙ c6 .if2 .left) refl,
         rw (
           ne-eqb _ _ (c8 .if1 .left),
@@ -107,7 +107,7 @@ returns-5 c =
             ∙ c .enum-told2 .given .1,
       ) refl,
       (
-        c4 .decode .ensures .1
+        c4 .decode .ensures .1 .0
             ∙ rw (ne-eqb _ _ (c8 .if1 .left), sym (c7 .stray .ensures) ∙ c6 .if2 .left) refl,
         rw (
           ne-eqb _ _ (c8 .if1 .left),

@@ -7,32 +7,23 @@ use Rattle.rehearse.proofs.keep.name_of.Tie as tie
 returns : tie.Need-returns
 returns c = search needs
 
-cast-decimal : tie.Need-cast-decimal
-cast-decimal c = descriptor-fits (c .before .before .args .fd) (c .before .before .fits .fd) (c .if1 .left)
+cast-number : tie.Need-cast-number
+cast-number c = descriptor-fits (c .before .before .args .fd) (c .before .before .fits .fd) (c .if1 .left)
 
-decimal-requires : tie.Need-decimal-requires
-decimal-requires c κs = search needs
+slice-aggregate-append-form : tie.Need-slice-aggregate-append-form
+slice-aggregate-append-form c = search needs
 
-slice-aggregate-put : tie.Need-slice-aggregate-put
-slice-aggregate-put c = search needs
+slice-aggregate-append-form-2 : tie.Need-slice-aggregate-append-form-2
+slice-aggregate-append-form-2 c = search needs
 
-slice-aggregate-put-2 : tie.Need-slice-aggregate-put-2
-slice-aggregate-put-2 c = search needs
+slice-aggregate-append-form-3 : tie.Need-slice-aggregate-append-form-3
+slice-aggregate-append-form-3 c = search needs
 
-put-requires : tie.Need-put-requires
-put-requires c κs = search needs
+slice-aggregate-append-form-4 : tie.Need-slice-aggregate-append-form-4
+slice-aggregate-append-form-4 c = search needs
 
-array-share-prefix-digits : tie.Need-array-share-prefix-digits
-array-share-prefix-digits c = search needs
-
-slice-aggregate-put-3 : tie.Need-slice-aggregate-put-3
-slice-aggregate-put-3 c = search needs
-
-slice-aggregate-put-4 : tie.Need-slice-aggregate-put-4
-slice-aggregate-put-4 c = search needs
-
-put-requires-2 : tie.Need-put-requires-2
-put-requires-2 c κs = search needs
+append-form-requires : tie.Need-append-form-requires
+append-form-requires c κs = search needs
 
 array-write-p : tie.Need-array-write-p
 array-write-p c = search needs
@@ -54,15 +45,12 @@ name-of-spec =
     tie.close
     (tie.spec
     returns
-    cast-decimal
-    decimal-requires
-    slice-aggregate-put
-    slice-aggregate-put-2
-    put-requires
-    array-share-prefix-digits
-    slice-aggregate-put-3
-    slice-aggregate-put-4
-    put-requires-2
+    cast-number
+    slice-aggregate-append-form
+    slice-aggregate-append-form-2
+    slice-aggregate-append-form-3
+    slice-aggregate-append-form-4
+    append-form-requires
     array-write-p
     readlink-requires
     count-requires

@@ -1,20 +1,20 @@
 -- `rehearse::walk::steps` meets its contract.
-use Rattle.rehearse.proofs.Walking.{walked-end, walked-line, counted-below, none-below, below-more}
-use Rattle.rehearse.specs.Counts.{Below, Walked}
-use Rattle.rehearse.specs.declared.walk.Tally.{Tally}
+use Rattle.rehearse.proofs.Walking.{walked-end, walked-line}
+use Rattle.rehearse.specs.Counts.{Walked}
+use Rattle.tallies.specs.declared.Tally.{Tally}
 use Rattle.rehearse.specs.declared.walk.Rehearsal.{Rehearsal}
 use Rattle.lines.proofs.Steps.{seek-from, seek-within}
 use lib.ListN.{length, drop}
 use Prim.Native.Nat.{suc, _+_, _-_, _≤_}
 use native.Mathlib.Omega.{arith}
-use mathlib.Core.Path.{_≡_, sym, subst}
+use mathlib.Core.Path.{_≡_, subst}
 use borrow.Author.Needs.{needs}
 use Rattle.rehearse.proofs.walk.steps.Statement.{statement}
 use Rattle.rehearse.proofs.walk.steps.Tie as tie
 
 abbrev Inv-loop : tie.InvT-loop
 Inv-loop text from number t₀ n₀ at₀ line₀ t n at line =
-    (line₀ ≤ line) × (line - line₀ ≤ at) × (line ≤ at) × Below (line - line₀ + 1) n
+    (line₀ ≤ line) × (line - line₀ ≤ at) × (line ≤ at)
     × ((r : Rehearsal) → Walked (length text - (line - line₀)) line (drop at text) t n r
     → Walked (length text) line₀ (drop at₀ text) t₀ n₀ r)
 
@@ -33,7 +33,6 @@ loop-holds c =
       omega arith,
       omega arith,
       c .before .before .pre,
-      below-more 1 (a .number - a .number + 1) n (omega arith) (subst (λ (k : Tally). Below 1 k) (sym (c .none .ensures)) none-below),
       λ r w. subst (λ k. Walked k (a .number) (drop (a .from) x) (a .tag) n r) e w,
     )
 
@@ -79,11 +78,7 @@ step-requires : tie.Need-step-requires Inv-loop μ-loop
 step-requires c κs = search needs
 
 counted-requires : tie.Need-counted-requires Inv-loop μ-loop
-counted-requires c κs =
-    let k = c .before .before .before .before .loop .line - c .before .before .before .before .before .before .before .args .number + 1 in
-    below-more k 18446744073709551615 (c .before .before .before .before .loop .n)
-    (omega (arith, c .before .before .before .before .loop .inv .1, c .before .before .before .loop-test .taken))
-    (c .before .before .before .before .loop .inv .3)
+counted-requires c κs = search needs
 
 loop-less : tie.Need-loop-less Inv-loop μ-loop
 loop-less c =
@@ -102,14 +97,11 @@ loop-again c =
     let s = c .before .before .step in
     let q = c .before .counted in
     let n = l .n in
-    let g : suc (length x - (l .line + 1 - p)) ≡ length x - (l .line - p) = omega (arith, l .inv .0, l .inv .1, c .before .before .before .before .before .loop-test .taken) in
-    let b = counted-below (l .line - p + 1) (l .line + 1) n (s .result .went) (l .inv .3) in (
+    let g : suc (length x - (l .line + 1 - p)) ≡ length x - (l .line - p) = omega (arith, l .inv .0, l .inv .1, c .before .before .before .before .before .loop-test .taken) in (
       omega (arith, l .inv .0),
       omega (arith, c .before .before .before .before .find .ensures, l .inv .1),
       omega (arith, c .before .before .before .before .find .ensures, l .inv .2),
-      below-more (l .line - p + 1 + 1) (l .line + 1 - p + 1) (q .result) (omega (arith, l .inv .0))
-          (subst (λ (k : Tally). Below (l .line - p + 1 + 1) k) (sym (q .ensures)) b),
-      λ r w. l .inv .4 r
+      λ r w. l .inv .3 r
           (subst (λ k. Walked k (l .line) (drop (l .at) x) (l .t) n r) g
           (walked-line (length x - (l .line + 1 - p)) (l .line) x (l .at) (c .before .before .before .before .find .result)
           (l .t) n (s .result) r (c .before .before .before .before .before .loop-test .taken)
@@ -125,7 +117,7 @@ returns c =
     let l = c .before .loop in
     let q : Rehearsal = record { tag = l .t; tally = l .n } in
     let w = walked-end (length x - (l .line - a .number)) (l .line) x (l .at) (l .t) (l .n) (c .loop-test .left) in
-    subst (λ (k : Tally). Walked (length x) (a .number) (drop (a .from) x) (a .tag) k q) (c .before .before .none .ensures) (l .inv .4 q w)
+    subst (λ (k : Tally). Walked (length x) (a .number) (drop (a .from) x) (a .tag) k q) (c .before .before .none .ensures) (l .inv .3 q w)
 
 pub steps-spec : {M : Type 1} → statement M
 steps-spec =

@@ -6,8 +6,8 @@ use borrow.Author.Needs.{needs}
 use Rattle.soundness.proofs.judging.sound.Statement.{statement}
 use Rattle.soundness.proofs.judging.sound.Tie as tie
 
-head-of-requires : tie.Need-head-of-requires
-head-of-requires c κs = search needs
+head-in-requires : tie.Need-head-in-requires
+head-in-requires c κs = search needs
 
 rules-sound-requires : tie.Need-rules-sound-requires
 rules-sound-requires c κs = search needs
@@ -78,7 +78,7 @@ returns c =
       rules-there f 3 (c11 .rules-sound3 .ensures),
       rules-there f 2 (c13 .rules-sound2 .ensures),
       rules-there f 1 (c15 .rules-sound .ensures),
-      c17 .head-of .ensures
+      c17 .head-in .ensures
           ∙ head-there f 2,
     )
 
@@ -86,7 +86,7 @@ pub sound-spec : {M : Type 1} → statement M
 sound-spec =
     tie.close
     (tie.spec
-    head-of-requires
+    head-in-requires
     rules-sound-requires
     rules-sound-requires-2
     rules-sound-requires-3

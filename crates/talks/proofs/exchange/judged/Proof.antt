@@ -7,11 +7,11 @@ use Rattle.talks.proofs.exchange.judged.Tie as tie
 refusal-of-requires : tie.Need-refusal-of-requires
 refusal-of-requires c κs = search needs
 
-compared-requires : tie.Need-compared-requires
-compared-requires c κs = search needs
+is-another-requires : tie.Need-is-another-requires
+is-another-requires c κs = search needs
 
 returns : tie.Need-returns
-returns c = judged-reply _ _ _ _ _ _ (c .before .before .refusal-of .ensures) (c .before .if1 .taken) (c .compared .ensures)
+returns c = judged-reply _ _ _ _ _ _ (c .before .before .refusal-of .ensures) (c .before .if1 .taken) (c .is-another .ensures)
 
 refused-requires : tie.Need-refused-requires
 refused-requires c κs = search needs
@@ -24,7 +24,7 @@ judged-spec =
     tie.close
     (tie.spec
     refusal-of-requires
-    compared-requires
+    is-another-requires
     returns
     refused-requires
     returns-2)

@@ -25,19 +25,19 @@ returns : tie.Need-returns
 returns c =
     let s = c .before .before .before .before .before .before .before .args .digits .now in
     let d = c .before .before .before .before .decode in
-    reads s _ (Bytes (c .before .d .given .0 .0)) _ (search needs) (sym (c .before .d .given .1) ∙ d .ensures .0) (d .ensures .1)
+    reads s _ (Bytes (c .before .d .given .0 .0)) _ (search needs) (sym (c .before .d .given .1) ∙ d .ensures .0) (d .ensures .1 .0)
 
 returns-2 : tie.Need-returns-2
 returns-2 c =
     let s = c .before .before .before .before .before .before .args .digits .now in
     let d = c .before .before .before .decode in
-    reads s _ NotHex _ (search needs) (sym (c .enum-told .given .1) ∙ d .ensures .0) (d .ensures .1)
+    reads s _ NotHex _ (search needs) (sym (c .enum-told .given .1) ∙ d .ensures .0) (d .ensures .1 .0)
 
 returns-3 : tie.Need-returns-3
 returns-3 c =
     let s = c .before .before .before .before .before .before .args .digits .now in
     let d = c .before .before .before .decode in
-    reads s _ RoomTooSmall _ (search needs) (sym (c .enum-told2 .given .1) ∙ d .ensures .0) (d .ensures .1)
+    reads s _ RoomTooSmall _ (search needs) (sym (c .enum-told2 .given .1) ∙ d .ensures .0) (d .ensures .1 .0)
 
 pub of-digits-spec : {M : Type 1} → statement M
 of-digits-spec =

@@ -1,3 +1,0 @@
-pub mod ByHand
-pub mod Counts
-pub mod Texts

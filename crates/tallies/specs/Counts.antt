@@ -1,0 +1,31 @@
+-- How many lines of a plan did what.
+use mathlib.Core.Bool.{Bool}
+use Prim.Native.Nat.{ℕ, _+_}
+use lib.Dec.{eqb, ltb}
+use Rattle.base.specs.Decide.{pick}
+use Rattle.tallies.specs.declared.Went.{Went}
+use Rattle.tallies.specs.declared.Tally.{Tally}
+
+-- one more where it is so; a count ends at 2 ^ 64 - 1
+unfoldable pub moreBy : ℕ → Bool → ℕ
+moreBy n so = pick so (pick (ltb n 18446744073709551615) (n + 1) n) n
+
+-- the first line that was not as expected
+unfoldable pub firstBy : ℕ → ℕ → Bool → ℕ → ℕ
+firstBy first unmet so number = pick so (pick (eqb unmet 0) number first) first
+
+-- a line more, with its number
+unfoldable pub countedBy : Tally → ℕ → Went → Tally
+countedBy n number w =
+    record {
+      exchanges = moreBy (n .exchanges) (w .played);
+      refused = moreBy (n .refused) (w .refused);
+      skipped = moreBy (n .skipped) (w .skipped);
+      undrawn = moreBy (n .undrawn) (w .undrawn);
+      expecting = moreBy (n .expecting) (w .expecting);
+      unmet = moreBy (n .unmet) (w .unmet);
+      first = firstBy (n .first) (n .unmet) (w .unmet) number;
+    }
+
+unfoldable pub noTally : Tally
+noTally = record { exchanges = 0; refused = 0; skipped = 0; undrawn = 0; expecting = 0; unmet = 0; first = 0 }

@@ -1,0 +1,4 @@
+pub mod Plain
+pub mod Names
+pub mod Exchanges
+pub mod Turns
