@@ -1,17 +1,21 @@
--- 01, "Access and modes" (8.2.3, Tables 6 to 12).
-use mathlib.Core.Bool.{Bool, true, false}
+-- 01, "Access and modes" (8.2.3, Tables 6 to 12): one decision for both classes.
+use mathlib.Core.Bool.{Bool, true, false, not}
 use Prim.Native.Nat.{ℕ}
 use lib.Dec.{eqb, leb}
 use Rattle.base.specs.Decide.{pick, and, or}
+use Rattle.base.specs.Status.{operationOk, permissionDenied, authenticationError, isoNormal, isoSecurity}
 use Rattle.messaging.specs.declared.Mode.{Mode}
 use Rattle.messaging.specs.declared.Mode.the-variants.{Plain, Mac, Full}
 use Rattle.messaging.specs.Protect.{modeNumber}
 use Rattle.fields.specs.declared.Head.{Head}
+use Rattle.order.specs.declared.Name.{Name}
+use Rattle.order.specs.declared.Name.the-variants.{AuthenticateFirst, AuthenticateNonFirst, PartTwo, ChangeKey, GetKeyVersion, GetCardUid}
+use Rattle.order.specs.declared.Name.the-variants.{GetFileSettings, ChangeFileSettings, GetFileCounters, ReadData, WriteData}
+use Rattle.order.specs.declared.Name.the-variants.{IsoSelectFile, IsoReadBinary, IsoUpdateBinary}
 use Rattle.state.specs.declared.Live.{Live}
 use Rattle.access.specs.declared.Grant.{Grant}
-use Rattle.access.specs.declared.Grant.the-variants.{ByKey, ByTap, Free, Never, Denied}
-use Rattle.access.specs.declared.Access.{Access}
-use Rattle.access.specs.declared.Access.the-variants.{In, Never as NeverIn, Denied as DeniedIn}
+use Rattle.access.specs.declared.Grant.the-variants.{ByKey, ByTap, Free, Unasked, Never, Denied}
+use Rattle.access.specs.declared.Decision.{Decision}
 
 -- a condition of a, b is c
 abbrev pub either : ℕ → ℕ → ℕ → Bool
@@ -28,52 +32,98 @@ granted live key a b c =
 
 -- reads look at Read and ReadWrite, writes at Write and ReadWrite
 unfoldable pub readGrant : Live → Head → Grant
-readGrant l h = granted (l .on) (l .key) (h .read) (h .both) (pick (h .sdm) (h .file) 15)
+readGrant l h = granted (l .on) (l .key) (h .read) (h .«read_write») (pick (h .sdm) (h .«sdm_file_read») 15)
 
 unfoldable pub writeGrant : Live → Head → Grant
-writeGrant l h = granted (l .on) (l .key) (h .write) (h .both) 15
+writeGrant l h = granted (l .on) (l .key) (h .write) (h .«read_write») 15
 
 -- ChangeFileSettings uses Change, GetFileCounters SDMCtrRet, by the same rule; counters with SDM off: 919D
 unfoldable pub changeGrant : Live → Head → Grant
 changeGrant l h = granted (l .on) (l .key) (h .change) (h .change) 15
 
 unfoldable pub counterGrant : Live → Head → Grant
-counterGrant l h = pick (h .sdm) (granted (l .on) (l .key) (h .ret) (h .ret) 15) Never
+counterGrant l h = pick (h .sdm) (granted (l .on) (l .key) (h .«sdm_ctr_ret») (h .«sdm_ctr_ret») 15) Never
+
+-- GetFileSettings and GetKeyVersion are always granted; GetCardUID needs a session; ChangeKey needs key 0; the authentications
+-- and selects have no access step
+unfoldable pub grantFor : Name → Live → Head → Grant
+grantFor AuthenticateFirst l h = Unasked
+grantFor AuthenticateNonFirst l h = Unasked
+grantFor PartTwo l h = Unasked
+grantFor ChangeKey l h = pick (and (l .on) (eqb (l .key) 0)) Unasked Denied
+grantFor GetKeyVersion l h = Unasked
+grantFor GetCardUid l h = pick (l .on) Unasked Denied
+grantFor GetFileSettings l h = Unasked
+grantFor ChangeFileSettings l h = changeGrant l h
+grantFor GetFileCounters l h = counterGrant l h
+grantFor ReadData l h = readGrant l h
+grantFor WriteData l h = writeGrant l h
+grantFor IsoSelectFile l h = Unasked
+grantFor IsoReadBinary l h = readGrant l h
+grantFor IsoUpdateBinary l h = writeGrant l h
 
 -- the mode of a file, by the numbers of MAC and Full; any other number is Plain
 unfoldable pub fileMode : ℕ → Mode
 fileMode m = pick (eqb m (modeNumber Mac)) Mac (pick (eqb m (modeNumber Full)) Full Plain)
 
 -- a key grants in the given mode, E and the tap rule in Plain
-abbrev pub inMode : Grant → Mode → Access
-inMode ByKey m = In m
-inMode ByTap m = In Plain
-inMode Free m = In Plain
-inMode Never m = NeverIn
-inMode Denied m = DeniedIn
+unfoldable pub underKey : Grant → Mode → Mode
+underKey ByKey m = m
+underKey ByTap m = Plain
+underKey Free m = Plain
+underKey Unasked m = Plain
+underKey Never m = Plain
+underKey Denied m = Plain
 
--- GetFileSettings and GetKeyVersion are always granted, MAC in session; GetCardUID needs a session, Full; ChangeKey needs key 0,
--- Full; 5F and F6 are Full under a key; reads and writes have the file's mode under a key
-unfoldable pub accessFor : ℕ → Live → Head → Access
-accessFor ins l h =
-    pick (or (eqb ins 0x64) (eqb ins 0xF5)) (In (pick (l .on) Mac Plain))
-    (pick (eqb ins 0x51) (pick (l .on) (In Full) DeniedIn)
-    (pick (eqb ins 0xC4) (pick (and (l .on) (eqb (l .key) 0)) (In Full) DeniedIn)
-    (pick (eqb ins 0x5F) (inMode (changeGrant l h) Full)
-    (pick (eqb ins 0xF6) (inMode (counterGrant l h) Full)
-    (pick (eqb ins 0x8D) (inMode (writeGrant l h) (fileMode (h .mode)))
-    (inMode (readGrant l h) (fileMode (h .mode))))))))
+-- GetFileSettings and GetKeyVersion: MAC in session; GetCardUID and ChangeKey: Full; 5F and F6 are Full under a key; reads and
+-- writes have the file's mode under a key
+unfoldable pub modeFor : Name → Grant → Bool → ℕ → Mode
+modeFor AuthenticateFirst g live m = Plain
+modeFor AuthenticateNonFirst g live m = Plain
+modeFor PartTwo g live m = Plain
+modeFor ChangeKey g live m = Full
+modeFor GetKeyVersion g live m = pick live Mac Plain
+modeFor GetCardUid g live m = Full
+modeFor GetFileSettings g live m = pick live Mac Plain
+modeFor ChangeFileSettings g live m = underKey g Full
+modeFor GetFileCounters g live m = underKey g Full
+modeFor ReadData g live m = underKey g (fileMode m)
+modeFor WriteData g live m = underKey g (fileMode m)
+modeFor IsoSelectFile g live m = Plain
+modeFor IsoReadBinary g live m = underKey g (fileMode m)
+modeFor IsoUpdateBinary g live m = underKey g (fileMode m)
 
--- 01's status of a grant: 919D if all conditions concerned are F, else 91AE
-unfoldable pub grantStatus : Grant → ℕ
-grantStatus ByKey = 0x9100
-grantStatus ByTap = 0x9100
-grantStatus Free = 0x9100
-grantStatus Never = 0x919D
-grantStatus Denied = 0x91AE
+-- the reads of a file
+unfoldable pub reads : Name → Bool
+reads AuthenticateFirst = false
+reads AuthenticateNonFirst = false
+reads PartTwo = false
+reads ChangeKey = false
+reads GetKeyVersion = false
+reads GetCardUid = false
+reads GetFileSettings = false
+reads ChangeFileSettings = false
+reads GetFileCounters = false
+reads ReadData = true
+reads WriteData = false
+reads IsoSelectFile = false
+reads IsoReadBinary = true
+reads IsoUpdateBinary = false
 
--- and of an access
-unfoldable pub accessStatus : Access → ℕ
-accessStatus (In m) = 0x9100
-accessStatus NeverIn = grantStatus Never
-accessStatus DeniedIn = grantStatus Denied
+-- the decision; an unauthenticated read of an SDM-enabled file is a tap, also where SDMFileRead is F and E grants
+unfoldable pub decided : Name → Live → Head → Decision
+decided n l h =
+    record {
+      grant = grantFor n l h;
+      mode = modeFor n (grantFor n l h) (l .on) (h .mode);
+      tap = and (reads n) (and (h .sdm) (not (l .on)));
+    }
+
+-- 01's status of a grant: not granted 919D if all conditions concerned are F, else 91AE; of CLA 00 6982
+unfoldable pub grantStatus : ℕ → Grant → ℕ
+grantStatus class ByKey = pick (eqb class 0x90) operationOk isoNormal
+grantStatus class ByTap = pick (eqb class 0x90) operationOk isoNormal
+grantStatus class Free = pick (eqb class 0x90) operationOk isoNormal
+grantStatus class Unasked = pick (eqb class 0x90) operationOk isoNormal
+grantStatus class Never = pick (eqb class 0x90) permissionDenied isoSecurity
+grantStatus class Denied = pick (eqb class 0x90) authenticationError isoSecurity

@@ -1,11 +1,12 @@
 -- 01, "Authentication and messages (9.1, 10.4)": the checks of 71 and 77, their part one, and its reply.
 use mathlib.Core.Bool.{Bool, true, false}
 use mathlib.Core.List.{List, _++_}
-use Prim.Native.Nat.{ℕ, min, _+_, _-_, _/_, _%_}
+use Prim.Native.Nat.{ℕ, _+_, _-_, _/_, _%_}
 use lib.Dec.{eqb, ltb}
 use lib.ListN.{length, take, drop, replicate}
 use Rattle.base.specs.Decide.{pick}
-use Rattle.base.specs.Bytes.{byteAt, laid}
+use Rattle.base.specs.Bytes.{byteAt}
+use Rattle.base.specs.Status.{noSuchKey, lengthError, permissionDenied, parameterError, additionalFrame}
 use Rattle.authentication.specs.Authentication.{enciphered}
 use Rattle.order.specs.Order.{keyStatus}
 use Rattle.state.specs.declared.Live.{Live}
@@ -18,27 +19,23 @@ use Rattle.replies.specs.Answer.{Answer, given, refusal}
 unfoldable pub valuesStatus : List ℕ → Bool → ℕ
 valuesStatus x application =
     pick (eqb (keyStatus (byteAt x 0)) 0)
-    (pick (eqb (byteAt x 2 / 2 % 2) 1) 0x919D (pick application 0 0x9140))
+    (pick (eqb (byteAt x 2 / 2 % 2) 1) permissionDenied (pick application 0 noSuchKey))
     (keyStatus (byteAt x 0))
 
 -- 71: under 2 bytes 917E; LenCap over 6 919E; length not 2 + LenCap 917E; then its values
 unfoldable pub firstStatus : List ℕ → Bool → ℕ
 firstStatus x application =
-    pick (ltb (length x) 2) 0x917E
-    (pick (ltb 6 (byteAt x 1)) 0x919E
-    (pick (eqb (length x) (2 + byteAt x 1)) (valuesStatus x application) 0x917E))
+    pick (ltb (length x) 2) lengthError
+    (pick (ltb 6 (byteAt x 1)) parameterError
+    (pick (eqb (length x) (2 + byteAt x 1)) (valuesStatus x application) lengthError))
 
 -- 77, in order: length not 1 917E; no session 919D; key byte
 unfoldable pub nextStatus : List ℕ → Bool → ℕ
-nextStatus x live = pick (eqb (length x) 1) (pick live (keyStatus (byteAt x 0)) 0x919D) 0x917E
-
--- of the code, not the paper: a text given out of a room of 258 zeros; one of at most 256 bytes is given whole
-unfoldable pub roomGiven : Tag → ℕ → List ℕ → Answer
-roomGiven t status e = given t status (take (min (length e) 256) (laid e 0 (replicate 258 0)))
+nextStatus x live = pick (eqb (length x) 1) (pick live (keyStatus (byteAt x 0)) permissionDenied) lengthError
 
 -- part one accepted gives E(Kx; RndB), 91AF, and ends the old session
 unfoldable pub begun : Tag → Pending → Answer
-begun t p = given (talking t noLive p) 0x91AF (enciphered (keyIn (t .secrets .keys) (p .key)) (p .«rnd_b»))
+begun t p = given (talking t noLive p) additionalFrame (enciphered (keyIn (t .secrets .keys) (p .key)) (p .«rnd_b»))
 
 -- PCDcap2 padded with zeros to six
 unfoldable pub capOf : List ℕ → List ℕ

@@ -1,12 +1,10 @@
-// Authentication (9.1.5, 9.1.6, 10.4): part one of 71 and of 77, and what both parts leave.
+// Authentication (9.1.5, 9.1.6, 10.4): part one of 71 and of 77.
 ghost use mathlib.Core.Path.{_≡_};
 ghost use Prim.Native.Nat.{_≤_};
 ghost use lib.ListN.{length, take};
-ghost use Rattle.state.specs.State.{talking};
 ghost use Rattle.replies.specs.Answer.{Gives};
-ghost use Rattle.auth.specs.Parts.{valuesStatus, firstStatus, nextStatus, roomGiven, begun, capOf, partOneFirst, partOneNext};
+ghost use Rattle.auth.specs.Parts.{valuesStatus, firstStatus, nextStatus, begun, capOf, partOneFirst, partOneNext};
 use replies::Done;
-use state::Live;
 use state::Pending;
 use state::Tag;
 
@@ -77,27 +75,6 @@ fn rnd_b(random: [u8; 20]) -> [u8; 16]
     r
 }
 
-// The tag with another session and pending part, and no tap.
-pub fn talking(tag: Tag, l: Live, p: Pending) -> Tag
-    ensures { λ r. ⌜ r ≡ talking tag l p ⌝ }
-{
-    let mut t = tag;
-    let q = state::quiet(t.tap);
-    t.live = l;
-    t.pending = p;
-    t.tap = q;
-    t
-}
-
-// A status with bytes as they are, up to 256.
-pub fn reply(tag: Tag, status: u16, e: &[u8]) -> Done
-    ensures { λ r. ⌜ Gives (roomGiven tag status (now (e .entry))) r ⌝ }
-{
-    let mut bytes = [0u8; 258];
-    base::put(e, &mut bytes, 0);
-    replies::give(tag, status, bytes, e.len())
-}
-
 // Part one accepted: E(Kx; RndB), 91AF; the old session ends.
 fn begin(tag: Tag, p: Pending) -> Done
     ensures { λ r. ⌜ Gives (begun tag p) r ⌝ }
@@ -105,7 +82,7 @@ fn begin(tag: Tag, p: Pending) -> Done
     let keys = tag.secrets.keys;
     let b = p.rnd_b;
     let e = authentication::part_one(state::key_of(keys, p.key), b);
-    reply(talking(tag, state::no_live(), p), 0x91AF, &e)
+    replies::give_text(state::talking(tag, state::no_live(), p), 0x91AF, &e)
 }
 
 // Part one of 71.

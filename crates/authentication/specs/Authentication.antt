@@ -5,6 +5,7 @@ use lib.Dec.{eqb}
 use lib.ListN.{length, take, drop, replicate}
 use Rattle.base.specs.Decide.{pick}
 use Rattle.base.specs.Bytes.{same}
+use Rattle.base.specs.Status.{operationOk, lengthError, authenticationError}
 use Rattle.cbc.specs.Cbc.{cbcOut, cbcBack}
 use Rattle.key_expansion.specs.Keys.{keyExpansion}
 use Rattle.authentication.specs.declared.Proof.{Proof}
@@ -44,9 +45,9 @@ partTwo kx b x = record { proof = proofOf kx b x; a = aOf (deciphered kx x) (pro
 
 -- 01's status for each answer
 unfoldable pub proofStatus : Proof → ℕ
-proofStatus Right = 0x9100
-proofStatus NotThirtyTwo = 0x917E
-proofStatus WrongRndB = 0x91AE
+proofStatus Right = operationOk
+proofStatus NotThirtyTwo = lengthError
+proofStatus WrongRndB = authenticationError
 
 -- the reply of part two: TI, RndA', PDcap2 (six zeros) and PCDcap2 for 71, RndA' for 77
 unfoldable pub firstReply : List ℕ → List ℕ → List ℕ → List ℕ → List ℕ

@@ -1,15 +1,14 @@
 // ISOReadBinary and ISOUpdateBinary (10.9.2, 10.9.3).
 ghost use mathlib.Core.Path.{_≡_};
-ghost use mathlib.Core.Bool.{not};
 ghost use lib.Dec.{eqb};
-ghost use Rattle.base.specs.Decide.{pick, and};
+ghost use Rattle.base.specs.Decide.{pick};
 ghost use Rattle.replies.specs.Answer.{Gives};
-ghost use Rattle.binaries.specs.Binaries.{isPlain, plainly, mayPass, mayUse, tapStatus, isoPart, readRange, readBinary, updateRange, updatedBinary};
-use access::Access;
+ghost use Rattle.binaries.specs.Binaries.{isPlain, isoPart, readBinary, updatedBinary, binary};
+use access::Decision;
 use messaging::Mode;
+use order::Command;
 use replies::Done;
 use spans::Reading;
-use state::Live;
 use state::Tag;
 
 fn is_plain(m: Mode) -> bool
@@ -22,55 +21,14 @@ fn is_plain(m: Mode) -> bool
     }
 }
 
-fn granted_plain(a: Access) -> bool
-    ensures { λ r. ⌜ r ≡ plainly a ⌝ }
+// A part of the selected file that is there: a tap, or the stored bytes.
+fn iso_part(tag: Tag, k: Command, r: Reading, d: Decision, count: usize, random: [u8; 20]) -> Done
+    ensures { λ x. ⌜ Gives (isoPart tag k r d count random) x ⌝ }
 {
-    match a {
-        Access::Never => false,
-        Access::Denied => false,
-        Access::In(m) => is_plain(m),
+    if d.tap {
+        return taps::read_tap(tag, r, true, k.offset, count, random);
     }
-}
-
-// Plain, and CmdCtr is not used up.
-fn may(l: Live, a: Access) -> bool
-    ensures { λ r. ⌜ r ≡ mayPass l a ⌝ }
-{
-    if replies::used_up(l.on, l.counter) {
-        return false;
-    }
-    granted_plain(a)
-}
-
-// Whether the selected file may be read (AD) or written (8D).
-fn may_use(tag: Tag, ins: u8) -> bool
-    ensures { λ r. ⌜ r ≡ mayUse tag ins ⌝ }
-{
-    let rules = tag.files.rules;
-    let lens = tag.files.lens;
-    let h = state::head_in(&rules, lens, tag.place.file);
-    may(tag.live, access::access_for(ins, tag.live, h))
-}
-
-// A tap's status, as an ISO one.
-fn tap_status(s: u16) -> u16
-    ensures { λ r. ⌜ r ≡ tapStatus s ⌝ }
-{
-    if s == 0x919E {
-        return 0x6A86;
-    }
-    0x6982
-}
-
-// A part of the selected file n that is there.
-fn iso_part(tag: Tag, reading: Reading, n: u8, at: usize, count: usize, random: [u8; 20]) -> Done
-    ensures { λ r. ⌜ Gives (isoPart tag reading n at count random) r ⌝ }
-{
-    if taps::is_tap(reading.settings.head.sdm, tag.live.on) {
-        let s = taps::show(tag, reading, true, random);
-        return taps::read_tap(tag, s, 0x9000, tap_status(s.status), at, count);
-    }
-    file_parts::read_stored_iso(tag, n, at, count)
+    file_parts::read_stored_iso(tag, k.file, k.offset, count)
 }
 
 // Le 00 asks for all.
@@ -83,55 +41,48 @@ fn all_or(le: usize, left: usize) -> usize
     le
 }
 
-// What is there of the file from an offset on.
-fn read_range(tag: Tag, n: u8, at: usize, le: usize, random: [u8; 20]) -> Done
-    ensures { λ r. ⌜ Gives (readRange tag n at le random) r ⌝ }
+// ISOReadBinary of the selected file.
+fn read_binary(tag: Tag, k: Command, r: Reading, d: Decision, random: [u8; 20]) -> Done
+    ensures { λ x. ⌜ Gives (readBinary tag k r d random) x ⌝ }
 {
-    let size = state::file_size(n);
-    if size <= at {
+    let size = state::file_size(k.file);
+    if size <= k.offset {
         return replies::refuse(tag, 0x6A86);
     }
-    let left = size - at;
-    if left < le {
+    let left = size - k.offset;
+    if left < k.count {
         return replies::refuse(tag, 0x6C00 + (left % 256) as u16);
     }
-    let reading = state::reading_in(tag.files, n);
-    iso_part(tag, reading, n, at, all_or(le, left), random)
+    iso_part(tag, k, r, d, all_or(k.count, left), random)
 }
 
-// ISOReadBinary of the selected file.
-pub fn read_binary(tag: Tag, at: usize, le: usize, random: [u8; 20]) -> Done
-    ensures { λ r. ⌜ Gives (readBinary tag at le random) r ⌝ }
+// ISOUpdateBinary of the selected file; x is the data.
+fn update_binary(tag: Tag, k: Command, x: &[u8]) -> Done
+    ensures { λ r. ⌜ Gives (updatedBinary tag k (now (x .entry))) r ⌝ }
 {
-    if may_use(tag, 0xAD) {
-        return read_range(tag, tag.place.file, at, le, random);
-    }
-    replies::refuse(tag, 0x6982)
-}
-
-// An update of file n within its range.
-fn update_range(tag: Tag, n: u8, at: usize, d: &[u8]) -> Done
-    ensures { λ r. ⌜ Gives (updateRange tag n at (now (d .entry))) r ⌝ }
-{
-    let size = state::file_size(n);
-    if size <= at {
+    let size = state::file_size(k.file);
+    if size <= k.offset {
         return replies::refuse(tag, 0x6A86);
     }
-    if size - at < d.len() {
+    if size - k.offset < x.len() {
         return replies::refuse(tag, 0x6A87);
     }
     let mut t = tag;
-    let f = file_parts::with_bytes(t.files, n, at, d);
+    let f = file_parts::with_bytes(t.files, k.file, k.offset, x);
     t.files = f;
     replies::give(replies::after(t), 0x9000, [0; 258], 0)
 }
 
-// ISOUpdateBinary of the selected file.
-pub fn update_binary(tag: Tag, at: usize, d: &[u8]) -> Done
-    ensures { λ r. ⌜ Gives (updatedBinary tag at (now (d .entry))) r ⌝ }
+// A read or an update of the selected file, granted so.
+pub fn binary(tag: Tag, k: Command, r: Reading, d: Decision, x: &[u8], random: [u8; 20]) -> Done
+    ensures { λ y. ⌜ Gives (binary tag k r d (now (x .entry)) random) y ⌝ }
 {
-    if may_use(tag, 0x8D) {
-        return update_range(tag, tag.place.file, at, d);
+    let m = d.mode;
+    if is_plain(m) {
+        if k.parted {
+            return update_binary(tag, k, x);
+        }
+        return read_binary(tag, k, r, d, random);
     }
     replies::refuse(tag, 0x6982)
 }

@@ -19,13 +19,15 @@ use Rattle.normalising.specs.declared.Normalised.the-variants.{Normal, BadFile,
 use Rattle.settings.specs.Answers.{judged, statusWord}
 use Rattle.normalising.specs.Answers.{normalised}
 use Rattle.settings.specs.Filing.{fileFaultWord}
+use Rattle.fields.specs.Fields.{sdmOn}
 use Rattle.fields.specs.Normal.{normal}
+use Rattle.spans.specs.declared.Reading.{Reading}
 use Rattle.meanings.proofs.NormalForm.{normal-length}
 use Rattle.meanings.proofs.Mirrors.{good-length}
 use Rattle.state.specs.declared.Files.{Files}
 use Rattle.state.specs.declared.Tag.{Tag}
 use Rattle.state.specs.State.{slotOf}
-use Rattle.soundness.proofs.Normals.{Laid}
+use Rattle.normalising.proofs.Normals.{Laid}
 use Rattle.replies.specs.declared.Done.{Done}
 use Rattle.replies.specs.Answer.{Gives, refusal, accepted}
 use Rattle.change_settings.specs.ChangeSettings.{withRules, restrung, byVerdict, changedSettings}
@@ -46,17 +48,17 @@ zeros-behind p =
     ap (λ x. normal p ++ x) (drop-replicate (length (normal p)) 27 0 ∙ ap (λ k. replicate (27 - k) 0) (normal-length p))
 
 -- a good string is stored
-pub good-changes : (t : Tag) (n : ℕ) (p : List ℕ) (m : Mode) (text : List ℕ) (k : ℕ) (f : Files) (u : Tag) (d : Done)
-    → Laid (judged n p) p (replicate 27 0) text k → f ≡ withRules (t .files) n text (k % 256) → u ≡ restrung t f n
-    → Gives (accepted u m []) d → Gives (changedSettings t n p m) d
+pub good-changes : (t : Tag) (n : ℕ) (r : Reading) (p : List ℕ) (m : Mode) (text : List ℕ) (k : ℕ) (f : Files) (on : Bool) (u : Tag) (d : Done)
+    → Laid (judged n p) p (replicate 27 0) text k → f ≡ withRules (t .files) n text (k % 256) → on ≡ sdmOn p
+    → u ≡ restrung t (r .settings .head .sdm) on f → Gives (accepted u m []) d → Gives (changedSettings t n r p m) d
 unfolding changedSettings
-good-changes t n p m text k f u d h e q g =
+good-changes t n r p m text k f on u d h e s q g =
     let z : length p ≤ 27 = h .fits in
     let l : k % 256 ≡ length p = omega (arith, h .len) in
     let x : f ≡ withRules (t .files) n (normal p ++ replicate (27 - length p) 0) (length p) =
     e ∙ ap₂ (λ s i. withRules (t .files) n s i) (h .is ∙ zeros-behind p) l in
-    subst (λ v. Gives (byVerdict t n p m v) d) (sym (h .fine))
-    (subst (λ y. Gives (accepted y m []) d) (q ∙ ap (λ y. restrung t y n) x) g)
+    subst (λ v. Gives (byVerdict t n r p m v) d) (sym (h .fine))
+    (subst (λ y. Gives (accepted y m []) d) (q ∙ ap₂ (λ y z. restrung t (r .settings .head .sdm) y z) s x) g)
 
 -- a string that normalising refuses is refused for the same reason
 bad-verdict : (v : Verdict) (s room : List ℕ) (e : Status) → normalised v s room ≡ BadString e → v ≡ Refused e
@@ -69,11 +71,11 @@ bad-verdict Good s room e h = absurd (never (leb (length s) (length room)) (leng
 bad-verdict (Refused x) s room e h = cc
 bad-verdict (WrongFile x) s room e h = let z : _≡_ {A = ℕ} 0 1 = cc in absurd (omega arith)
 
-pub bad-changes : (t : Tag) (n : ℕ) (p room : List ℕ) (m : Mode) (e : Status) (w : ℕ) (d : Done)
-    → normalised (judged n p) p room ≡ BadString e → w ≡ statusWord e → Gives (refusal t w) d → Gives (changedSettings t n p m) d
+pub bad-changes : (t : Tag) (n : ℕ) (r : Reading) (p room : List ℕ) (m : Mode) (e : Status) (w : ℕ) (d : Done)
+    → normalised (judged n p) p room ≡ BadString e → w ≡ statusWord e → Gives (refusal t w) d → Gives (changedSettings t n r p m) d
 unfolding changedSettings
-bad-changes t n p room m e w d h q g =
-    subst (λ v. Gives (byVerdict t n p m v) d) (sym (bad-verdict (judged n p) p room e h))
+bad-changes t n r p room m e w d h q g =
+    subst (λ v. Gives (byVerdict t n r p m v) d) (sym (bad-verdict (judged n p) p room e h))
     (subst (λ y. Gives (refusal t y) d) q g)
 
 -- and so is a file byte
@@ -87,11 +89,11 @@ bad-file Good s room e h = absurd (never (leb (length s) (length room)) (length 
 bad-file (Refused x) s room e h = let z : _≡_ {A = ℕ} 0 1 = cc in absurd (omega arith)
 bad-file (WrongFile x) s room e h = cc
 
-pub file-changes : (t : Tag) (n : ℕ) (p room : List ℕ) (m : Mode) (e : FileFault) (w : ℕ) (d : Done)
-    → normalised (judged n p) p room ≡ BadFile e → w ≡ fileFaultWord e → Gives (refusal t w) d → Gives (changedSettings t n p m) d
+pub file-changes : (t : Tag) (n : ℕ) (r : Reading) (p room : List ℕ) (m : Mode) (e : FileFault) (w : ℕ) (d : Done)
+    → normalised (judged n p) p room ≡ BadFile e → w ≡ fileFaultWord e → Gives (refusal t w) d → Gives (changedSettings t n r p m) d
 unfolding changedSettings
-file-changes t n p room m e w d h q g =
-    subst (λ v. Gives (byVerdict t n p m v) d) (sym (bad-file (judged n p) p room e h))
+file-changes t n r p room m e w d h q g =
+    subst (λ v. Gives (byVerdict t n r p m v) d) (sym (bad-file (judged n p) p room e h))
     (subst (λ y. Gives (refusal t y) d) q g)
 
 -- a good string is never too long for 27 bytes

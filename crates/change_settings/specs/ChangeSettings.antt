@@ -10,11 +10,13 @@ use Rattle.settings.specs.declared.Verdict.{Verdict}
 use Rattle.settings.specs.declared.Verdict.the-variants.{Good, Refused, WrongFile}
 use Rattle.settings.specs.Answers.{judged, statusWord}
 use Rattle.settings.specs.Filing.{fileFaultWord}
+use Rattle.fields.specs.Fields.{sdmOn}
 use Rattle.fields.specs.Normal.{normal}
+use Rattle.spans.specs.declared.Reading.{Reading}
 use Rattle.state.specs.declared.Files.{Files}
 use Rattle.state.specs.declared.Tag.{Tag}
 use Rattle.state.specs.declared.Tapping.{Tapping}
-use Rattle.state.specs.State.{slotOf, readingIn, tapped, filed}
+use Rattle.state.specs.State.{slotOf, tapped, filed}
 use Rattle.replies.specs.Answer.{Answer, refusal, accepted}
 
 -- the files with another settings string of file n, zeros behind it
@@ -26,17 +28,16 @@ withRules f n text len =
 unfoldable pub recounted : Tapping → Bool → Bool → Tapping
 recounted t before after = record { on = t .on; iso = t .iso; counter = pick (and after (not before)) 0 (t .counter) }
 
--- the tag with other files, of which file n got another settings string
-unfoldable pub restrung : Tag → Files → ℕ → Tag
-restrung t f n =
-    filed (tapped t (recounted (t .tap) (readingIn (t .files) n .settings .head .sdm) (readingIn f n .settings .head .sdm))) f
+-- the tag with other files, where SDM of the file was on before and is on after
+unfoldable pub restrung : Tag → Bool → Bool → Files → Tag
+restrung t before after f = filed (tapped t (recounted (t .tap) before after)) f
 
--- the tag stores the normal form
-abbrev pub byVerdict : Tag → ℕ → List ℕ → Mode → Verdict → Answer
-byVerdict t n p m Good =
-    accepted (restrung t (withRules (t .files) n (normal p ++ replicate (27 - length p) 0) (length p)) n) m []
-byVerdict t n p m (Refused e) = refusal t (statusWord e)
-byVerdict t n p m (WrongFile f) = refusal t (fileFaultWord f)
+-- the tag stores the normal form; r are the file's settings before
+abbrev pub byVerdict : Tag → ℕ → Reading → List ℕ → Mode → Verdict → Answer
+byVerdict t n r p m Good =
+    accepted (restrung t (r .settings .head .sdm) (sdmOn p) (withRules (t .files) n (normal p ++ replicate (27 - length p) 0) (length p))) m []
+byVerdict t n r p m (Refused e) = refusal t (statusWord e)
+byVerdict t n r p m (WrongFile f) = refusal t (fileFaultWord f)
 
-unfoldable pub changedSettings : Tag → ℕ → List ℕ → Mode → Answer
-changedSettings t n p m = byVerdict t n p m (judged n p)
+unfoldable pub changedSettings : Tag → ℕ → Reading → List ℕ → Mode → Answer
+changedSettings t n r p m = byVerdict t n r p m (judged n p)

@@ -1,33 +1,15 @@
 // Step 9 of ReadData and WriteData (10.8).
 ghost use mathlib.Core.Path.{_≡_};
-ghost use mathlib.Core.Bool.{not};
-ghost use Prim.Native.Nat.{_+_, _<_, _≤_};
+ghost use Prim.Native.Nat.{_+_};
 ghost use lib.Dec.{ltb};
-ghost use Rattle.base.specs.Decide.{and};
-ghost use Rattle.fields.specs.Fields.{three};
 ghost use Rattle.replies.specs.Answer.{Gives};
 ghost use Rattle.contents.specs.Contents.{rangeStatus, asked, wrappedPart, readData, writeStatus, writtenData};
+use access::Decision;
 use messaging::Mode;
+use order::Command;
 use replies::Done;
 use spans::Reading;
 use state::Tag;
-
-fn wide(b: u8) -> usize
-    ensures { λ r. ⌜ (r ≡ b) × (r < 256) ⌝ }
-{
-    b as usize
-}
-
-// The number in the three bytes at an index of a header, low byte first.
-fn three_at(x: &[u8], i: usize) -> usize
-    requires { ⌜ i ≤ 4 ⌝ }
-    ensures { λ r. ⌜ r ≡ three (now (x .entry)) i ⌝ }
-{
-    let a = wide(base::at(x, i));
-    let b = wide(base::at(x, i + 1));
-    let c = wide(base::at(x, i + 2));
-    a + 256 * (b + 256 * c)
-}
 
 // Whether so many bytes from an offset on go past the end.
 fn goes_past(at: usize, count: usize, size: usize) -> bool
@@ -68,36 +50,32 @@ fn asked_for(at: usize, count: usize, size: usize) -> usize
     count
 }
 
-// ReadData of file n behind its range.
+// ReadData behind its range: a tap, or the stored bytes.
 fn wrapped_part(
     tag: Tag,
-    reading: Reading,
-    n: u8,
-    at: usize,
+    k: Command,
+    r: Reading,
+    d: Decision,
     count: usize,
-    m: Mode,
     random: [u8; 20],
 ) -> Done
-    ensures { λ r. ⌜ Gives (wrappedPart tag reading n at count m random) r ⌝ }
+    ensures { λ x. ⌜ Gives (wrappedPart tag k r d count random) x ⌝ }
 {
-    if taps::is_tap(reading.settings.head.sdm, tag.live.on) {
-        let s = taps::show(tag, reading, false, random);
-        return taps::read_tap(tag, s, 0x9100, s.status, at, count);
+    if d.tap {
+        return taps::read_tap(tag, r, false, k.offset, count, random);
     }
-    file_parts::read_stored(tag, m, n, at, count)
+    let m = d.mode;
+    file_parts::read_stored(tag, m, k.file, k.offset, count)
 }
 
-// ReadData of file n; x is the command's header.
-pub fn read_data(tag: Tag, n: u8, x: &[u8], m: Mode, random: [u8; 20]) -> Done
-    ensures { λ r. ⌜ Gives (readData tag n (now (x .entry)) m random) r ⌝ }
+// ReadData; r are the file's settings.
+pub fn read_data(tag: Tag, k: Command, r: Reading, d: Decision, random: [u8; 20]) -> Done
+    ensures { λ x. ⌜ Gives (readData tag k r d random) x ⌝ }
 {
-    let at = three_at(x, 1);
-    let count = three_at(x, 4);
-    let size = state::file_size(n);
-    let s = range_status(at, count, size);
+    let size = state::file_size(k.file);
+    let s = range_status(k.offset, k.count, size);
     if s == 0 {
-        let reading = state::reading_in(tag.files, n);
-        return wrapped_part(tag, reading, n, at, asked_for(at, count, size), m, random);
+        return wrapped_part(tag, k, r, d, asked_for(k.offset, k.count, size), random);
     }
     replies::refuse(tag, s)
 }
@@ -118,15 +96,14 @@ fn write_status(at: usize, count: usize, given: usize, size: usize) -> u16
     0x917E
 }
 
-// WriteData of file n; x is the command's header, p the data.
-pub fn write_data(tag: Tag, n: u8, x: &[u8], p: &[u8], m: Mode) -> Done
-    ensures { λ r. ⌜ Gives (writtenData tag n (now (x .entry)) (now (p .entry)) m) r ⌝ }
+// WriteData; p is the data.
+pub fn write_data(tag: Tag, k: Command, p: &[u8], m: Mode) -> Done
+    ensures { λ r. ⌜ Gives (writtenData tag k (now (p .entry)) m) r ⌝ }
 {
-    let at = three_at(x, 1);
-    let s = write_status(at, three_at(x, 4), p.len(), state::file_size(n));
+    let s = write_status(k.offset, k.count, p.len(), state::file_size(k.file));
     if s == 0 {
         let mut t = tag;
-        let f = file_parts::with_bytes(t.files, n, at, p);
+        let f = file_parts::with_bytes(t.files, k.file, k.offset, p);
         t.files = f;
         return replies::accept(t, m, [0; 258], 0);
     }

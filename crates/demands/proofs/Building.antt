@@ -1,4 +1,4 @@
--- A wrapped command as the other side builds it: its form and length, and that steps 1 to 4 pass it.
+-- A wrapped command as the other side builds it: its form and length, and that steps 1 to 5 pass it.
 use mathlib.Core.Path.{_≡_, refl, sym, _∙_, ap, subst}
 use mathlib.Core.Bool.{Bool, true, false}
 use mathlib.Core.List.{List, [], _∷_, _++_}
@@ -8,7 +8,7 @@ use lib.Dec.{eqb, ltb, lit<}
 use lib.ListN.{length, take, drop, replicate, length-append}
 use lib.Seq.{take-append-seam}
 use borrow.Author.Tests.{eq-eqb, ne-eqb, le-leb, le-ltb}
-use Rattle.base.specs.Decide.{and, or, oneOf}
+use Rattle.base.specs.Decide.{pick, or, oneOf}
 use Rattle.base.specs.Bytes.{byteAt, AllBytes}
 use Rattle.base.proofs.Bytes.{append-bytes}
 use Rattle.aes.specs.Block.{IsBlock}
@@ -27,12 +27,20 @@ use Rattle.cmac.specs.Cmac.{mac}
 use Rattle.opening.specs.Command.{sentCommand}
 use Rattle.padding.proofs.Unpadding.{padded-length}
 use Rattle.state.specs.declared.Tag.{Tag}
+use Rattle.state.specs.State.{readingIn}
 use Rattle.replies.specs.Answer.{Answer}
 use Rattle.settings.specs.Filing.{fileStatus}
-use Rattle.order.specs.Order.{formRight, commandData, orderStatus, headerLength, byteStatus, frontStatus}
-use Rattle.wrapped.specs.Wrapped.{fromStep5, commanded, wrapped as onWrapped}
-use Rattle.tag.specs.Call.{answered}
+use Rattle.order.specs.declared.Name.the-variants.{ChangeFileSettings}
+use Rattle.order.specs.declared.Command.{Command}
+use Rattle.order.specs.declared.Ordered.{Ordered}
+use Rattle.order.specs.declared.Ordered.the-variants.{Is, Refused}
+use Rattle.order.specs.Names.{classOf, insOf, among, named}
+use Rattle.order.specs.Order.{formRight, commandData, orderStatus, headerLength, namesKey, byteStatus, frontStatus, wrappedStatus}
+use Rattle.order.specs.Commands.{wrappedCommand, byStatus, wrappedOrder, ordered, dataOf}
+use Rattle.order.proofs.Placed.{wrapped-data}
+use Rattle.tag.specs.Way.{fromStep6, commanded, onOrder, answered}
 use Rattle.series.proofs.Choices.{not-both, way, both-true, or-right}
+use Rattle.series.proofs.Orders.{wrapped-file}
 use Rattle.series.proofs.Born.{zeros-bytes}
 use Rattle.demands.specs.Reaching.{built}
 
@@ -110,7 +118,7 @@ pub wrapped-filled : (s : Session) (m : Mode) (cmd n : ℕ) (d : List ℕ) → 1
 unfolding sentCommand
 wrapped-filled s m cmd n d = signed-filled m s cmd n (sent m s (commandIv s) true d)
 
--- ---- steps 1 to 4
+-- ---- steps 1 to 5
 last-byte : (x : List ℕ) (z : ℕ) → byteAt (x ++ z ∷ []) (length x) ≡ z
 last-byte [] z = refl
 last-byte (a ∷ x) z = last-byte x z
@@ -143,30 +151,54 @@ built-form ins x h =
 both-false : {a b : Bool} → a ≡ false → b ≡ false → or a b ≡ false
 both-false e f = rw (e, f) refl
 
--- with no part two pending a command other than 71, 77 and AF comes to step 5
+-- steps 3 to 5: no part two pending, in the application, a file byte
 in-order : (pending : Bool) → pending ≡ false → eqb (orderStatus 0x5F 0 0 pending) 0 ≡ true
-unfolding orderStatus oneOf
+unfolding orderStatus
 in-order pending e = rw e refl
 
-pub built-to-step5 : (t : Tag) (x random : List ℕ) (P : Answer → Type 0) → 1 ≤ length x → length x ≤ 255 → t .pending .on ≡ false
-    → P (fromStep5 t 0x5F x random) → P (answered t (built 0x5F x) random)
-unfolding built answered onWrapped commanded
-built-to-step5 t x random P h b off p =
-    let c = built 0x5F x in
-    let l : length (built 0x5F x) ≡ 6 + length x = built-length 0x5F x in
-    let short : or (ltb (length c) 4) (ltb 261 (length c)) ≡ false =
-    both-false (le-ltb (length c) 4 (omega arith)) (le-ltb 261 (length c) (omega arith)) in
-    way P (or (ltb (length c) 4) (ltb 261 (length c))) (λ z. against z short)
-    (λ z.
-    way P (formRight c)
-    (λ f.
-    way P (eqb (orderStatus 0x5F 0 0 (t .pending .on)) 0) (λ o. subst (λ y. P (fromStep5 t 0x5F y random)) (sym (built-part 0x5F x)) p)
-    (against (in-order (t .pending .on) off)))
-    (against (built-form 0x5F x h)))
-
--- ---- step 5: the file byte, in the application
-pub front-passes : (x : List ℕ) (application : Bool) (n : ℕ) → 1 ≤ length x → application ≡ true → byteAt x 0 ≡ n → 1 ≤ n → n ≤ 3
-    → eqb (frontStatus 0x5F x application) 0 ≡ true
-unfolding frontStatus headerLength byteStatus fileStatus oneOf
+front-passes : (x : List ℕ) (application : Bool) (n : ℕ) → 1 ≤ length x → application ≡ true → byteAt x 0 ≡ n → 1 ≤ n → n ≤ 3
+    → frontStatus 0x5F x application ≡ 0
+unfolding frontStatus headerLength byteStatus namesKey fileStatus oneOf
 front-passes x application n l a e f g =
     rw (le-ltb (length x) 1 l, a, e, le-ltb 31 n (omega arith), ne-eqb n 0 (λ z. omega arith), le-ltb 3 n g) refl
+
+-- a change of file n, as the other side builds it, comes to step 6
+module _ (x : List ℕ) (n : ℕ) (filled : 1 ≤ length x) (fits : length x ≤ 255) (is : byteAt x 0 ≡ n) (first : 1 ≤ n) (last : n ≤ 3) where
+  abbrev c : List ℕ
+  c = built 0x5F x
+
+  abbrev k : Command
+  k = wrappedCommand ChangeFileSettings c
+
+  built-status : (pending application : Bool) → pending ≡ false → application ≡ true → wrappedStatus c pending application ≡ 0
+  unfolding built wrappedStatus
+  built-status pending application off a =
+      way (λ s. s ≡ 0) (eqb (orderStatus 0x5F 0 0 pending) 0)
+      (λ z.
+      ap (λ y. frontStatus 0x5F y application) (built-part 0x5F x) ∙ front-passes x application n filled a is first last)
+      (against (in-order pending off))
+
+  built-ordered : (pending application : Bool) (file : ℕ) → pending ≡ false → application ≡ true → ordered c pending application file ≡ Is k
+  unfolding built ordered wrappedOrder byStatus named among classOf insOf
+  built-ordered pending application file off a =
+      let l : length (built 0x5F x) ≡ 6 + length x = built-length 0x5F x in
+      let short : or (ltb (length c) 4) (ltb 261 (length c)) ≡ false =
+      both-false (le-ltb (length c) 4 (omega arith)) (le-ltb 261 (length c) (omega arith)) in
+      let R : Ordered → Type 0 = λ o. o ≡ Is k in
+      way R (or (ltb (length c) 4) (ltb 261 (length c))) (λ z. against z short)
+      (λ z.
+      way R (formRight c) (λ f. subst (λ s. R (pick (eqb s 0) (Is k) (Refused s))) (sym (built-status pending application off a)) refl)
+      (against (built-form 0x5F x filled)))
+
+  pub built-file : k .file ≡ n
+  unfolding built namesKey headerLength oneOf
+  built-file = wrapped-file ChangeFileSettings c 0x5F refl refl refl ∙ ap (λ y. byteAt y 0) (built-part 0x5F x) ∙ is
+
+  pub built-comes : (t : Tag) (random : List ℕ) (P : Answer → Type 0) → t .pending .on ≡ false → t .place .application ≡ true
+      → P (fromStep6 t k (readingIn (t .files) n) x random) → P (answered t c random)
+  unfolding answered commanded wrappedCommand
+  built-comes t random P off a p =
+      let part : dataOf k c ≡ x = wrapped-data ChangeFileSettings c ∙ built-part 0x5F x in
+      subst (λ o. P (onOrder t c random o)) (sym (built-ordered (t .pending .on) (t .place .application) (t .place .file) off a))
+      (subst (λ i. P (fromStep6 t k (readingIn (t .files) i) (dataOf k c) random)) (sym built-file)
+      (subst (λ y. P (fromStep6 t k (readingIn (t .files) n) y random)) (sym part) p))

@@ -9,7 +9,8 @@ use Rattle.replies.specs.Answer.{Answer}
 use Rattle.tag.specs.declared.Called.{Called}
 use Rattle.tag.specs.declared.Outcome.{Outcome}
 use Rattle.tag.specs.declared.Outcome.the-variants.{Replied, SmallRoom, WrongRandom, Unsound}
-use Rattle.tag.specs.Call.{answered, replyOf, outcomeOf, replied, unanswered, byOutcome, roomBy, Calls}
+use Rattle.tag.specs.Way.{answered}
+use Rattle.tag.specs.Call.{replyOf, outcomeOf, replied, unanswered, byOutcome, roomBy, Calls}
 use Rattle.series.specs.Series.{Asked, step, after}
 use Rattle.demands.specs.Talks.{Said, heard, said, saidAll, Had, saying, Speaks, Played, held, sayings, SpeaksAll}
 

@@ -8,7 +8,7 @@ use lib.Dec.{eqb}
 use lib.ListN.{length, take, replicate, length-append, length-take, length-drop}
 use lib.Seq.{take-at}
 use borrow.Author.Tests.{eqb-true, le-ltb}
-use Rattle.base.specs.Decide.{pick, and, oneOf}
+use Rattle.base.specs.Decide.{pick, and}
 use Rattle.base.specs.Bytes.{byteAt, low, same}
 use Rattle.base.proofs.Bytes.{and-left, and-right}
 use Rattle.messaging.specs.declared.Mode.{Mode}
@@ -16,14 +16,15 @@ use Rattle.messaging.specs.declared.Mode.the-variants.{Plain}
 use Rattle.messaging.specs.Protect.{signed, sent}
 use Rattle.closing.specs.Reply.{closed, closedLength, overlong}
 use Rattle.settings.specs.declared.Verdict.the-variants.{Good}
+use Rattle.fields.specs.Fields.{sdmOn}
 use Rattle.fields.specs.Normal.{normal}
-use Rattle.meanings.proofs.NormalForm.{normal-length}
+use Rattle.meanings.proofs.NormalForm.{normal-length, normal-sdm}
 use Rattle.meanings.proofs.Mirrors.{good-length}
-use Rattle.access.specs.declared.Access.the-variants.{In}
+use Rattle.order.specs.declared.Name.the-variants.{ChangeFileSettings}
 use Rattle.state.specs.declared.Tag.{Tag}
 use Rattle.state.specs.State.{sizeOf, rulesOf, readingIn, noLive, noPending, endedOf, filed, placed, talking, tapped}
 use Rattle.soundness.specs.Sound.{soundTag}
-use Rattle.access.specs.Access.{accessFor}
+use Rattle.access.specs.Access.{decided}
 use Rattle.replies.specs.Answer.{Answer, refusal, accepted, afterwards}
 use Rattle.details.specs.Details.{settingsReply, fileSettings}
 use Rattle.change_settings.specs.ChangeSettings.{withRules, restrung, byVerdict}
@@ -31,16 +32,17 @@ use Rattle.selects.specs.Selects.{moved, byName, selected}
 use Rattle.tag.specs.declared.Outcome.{Outcome}
 use Rattle.tag.specs.declared.Outcome.the-variants.{Replied}
 use Rattle.order.specs.Order.{commandData}
-use Rattle.inter_industry.specs.InterIndustry.{isoForm, lcOf, dataOf, isoCommanded, interIndustry}
-use Rattle.tag.specs.Call.{answered, withStatus, replyOf, outcomeOf, replied, byOutcome}
+use Rattle.order.specs.Commands.{ordered}
+use Rattle.tag.specs.Way.{commanded, onOrder, answered}
+use Rattle.tag.specs.Call.{withStatus, replyOf, outcomeOf, replied, byOutcome}
 use Rattle.series.specs.Series.{Asked, step, accepting, Typed}
 use Rattle.series.specs.Worked.{selectApplication, settingsOf}
 use Rattle.series.proofs.Choices.{way}
 use Rattle.series.proofs.Places.{each-file, small}
-use Rattle.series.proofs.Computing.{a-message, a-wrapped-command}
+use Rattle.series.proofs.Computing.{access, a-message, an-iso-order, a-wrapped-command}
 use Rattle.series.proofs.Fine.{Fine, fine-sound, sound-fine}
 use Rattle.series.proofs.Soundness.{fine-answered, fine-step}
-use Rattle.demands.specs.Talks.{Said, heard, said, saidAll, Alike, isChange, modeOf, stringIn, stringOfReply, telling, Tells, Exactly}
+use Rattle.demands.specs.Talks.{Said, heard, said, saidAll, Alike, isChange, stringIn, stringOfReply, telling, Tells, Exactly}
 use Rattle.demands.proofs.Changing.{Changed, accepted-change, string-sent}
 use Rattle.demands.proofs.Series.{answered-rules}
 use Rattle.demands.proofs.Readback.{string-read}
@@ -49,16 +51,22 @@ use Rattle.demands.proofs.Readback.{string-read}
 module _ (t : Tag) (c d : List ℕ) (a b : Answer) (h : Changed t c a) (k : Changed t d b) (file : byteAt (commandData c) 0 ≡ byteAt (commandData d) 0) where
   one-mode : h .mode ≡ k .mode
   one-mode =
-      let e : In (h .mode) ≡ In (k .mode) =
-      sym (h .sent .granted) ∙ ap (λ n. accessFor 0x5F (t .live) (readingIn (t .files) n .settings .head)) file ∙ k .sent .granted in
-      ap modeOf e
+      sym (h .sent .decides)
+      ∙ ap (λ n. decided ChangeFileSettings (t .live) (readingIn (t .files) n .settings .head) .mode) file
+      ∙ k .sent .decides
 
   one-answer : normal (h .text) ≡ normal (k .text) → a ≡ b
   one-answer e =
       let l : length (h .text) ≡ length (k .text) = sym (normal-length (h .text)) ∙ ap length e ∙ normal-length (k .text) in
+      let on : sdmOn (h .text) ≡ sdmOn (k .text) = sym (normal-sdm (h .text)) ∙ ap sdmOn e ∙ normal-sdm (k .text) in
+      let n = byteAt (commandData d) 0 in
+      let before = readingIn (t .files) n .settings .head .sdm in
+      let put : Bool → List ℕ → ℕ → Answer =
+      λ o s i. accepted (restrung t before o (withRules (t .files) n (s ++ replicate (27 - i) 0) i)) (k .mode) [] in
       h .is
-      ∙ ap₂ (λ n m. byVerdict t n (h .text) m Good) file one-mode
-      ∙ ap₂ (λ (s : List ℕ) (i : ℕ). accepted (restrung t (withRules (t .files) (byteAt (commandData d) 0) (s ++ replicate (27 - i) 0) i) (byteAt (commandData d) 0)) (k .mode) []) e l
+      ∙ ap₂ (λ j m. byVerdict t j (readingIn (t .files) j) (h .text) m Good) file one-mode
+      ∙ ap (λ o. put o (normal (h .text)) (length (h .text))) on
+      ∙ ap₂ (put (sdmOn (k .text))) e l
       ∙ sym (k .is)
 
 alike-same : (t u : Tag) → t ≡ u → Alike t u
@@ -68,9 +76,9 @@ alike-same t u e asked = ap (λ v. saidAll v asked) e
 -- ---- the series that tells: what it is answered
 -- selecting the application is answered by every tag with no part two pending
 select-moves : (u : Tag) (random : List ℕ) → u .pending .on ≡ false → answered u selectApplication random ≡ moved u true
-unfolding answered interIndustry isoForm isoCommanded selectApplication oneOf selected byName dataOf lcOf same
+unfolding answered an-iso-order commanded selectApplication selected byName same
 select-moves u random e =
-    ap (λ (p : Bool). pick p (refusal u 0x6985) (moved u true)) e
+    ap (λ (p : Bool). onOrder u selectApplication random (ordered selectApplication p (u .place .application) (u .place .file))) e
 
 -- GetFileSettings is answered by every tag in the application, with no session and no part two pending
 abbrev answers-settings : Tag → ℕ → List ℕ → Type 0
@@ -78,15 +86,15 @@ answers-settings u n random =
     answered (moved u true .tag) (settingsOf n) random ≡ accepted (moved u true .tag) Plain (settingsReply (rulesOf (u .files) n) (sizeOf n))
 
 tells-1 : (u : Tag) (random : List ℕ) → answers-settings u 1 random
-unfolding a-wrapped-command a-message answered settingsOf moved noLive noPending accessFor fileSettings placed endedOf talking
+unfolding a-wrapped-command access a-message answered settingsOf moved noLive noPending fileSettings placed endedOf talking
 tells-1 u random = refl
 
 tells-2 : (u : Tag) (random : List ℕ) → answers-settings u 2 random
-unfolding a-wrapped-command a-message answered settingsOf moved noLive noPending accessFor fileSettings placed endedOf talking
+unfolding a-wrapped-command access a-message answered settingsOf moved noLive noPending fileSettings placed endedOf talking
 tells-2 u random = refl
 
 tells-3 : (u : Tag) (random : List ℕ) → answers-settings u 3 random
-unfolding a-wrapped-command a-message answered settingsOf moved noLive noPending accessFor fileSettings placed endedOf talking
+unfolding a-wrapped-command access a-message answered settingsOf moved noLive noPending fileSettings placed endedOf talking
 tells-3 u random = refl
 
 tells : (u : Tag) (random : List ℕ) (n : ℕ) → 1 ≤ n → n ≤ 3 → answers-settings u n random
@@ -160,7 +168,9 @@ idle-after t c a h =
     let n = byteAt (commandData c) 0 in
     let p = h .text in
     ap (λ (x : Answer). x .tag .pending .on) (h .is)
-    ∙ still-idle (restrung t (withRules (t .files) n (normal p ++ replicate (27 - length p) 0) (length p)) n) (h .mode) (h .idle)
+    ∙ still-idle
+    (restrung t (readingIn (t .files) n .settings .head .sdm) (sdmOn p) (withRules (t .files) n (normal p ++ replicate (27 - length p) 0) (length p)))
+    (h .mode) (h .idle)
 
 module _ (t : Tag) (f : Fine t) (n : ℕ) (a : 1 ≤ n) (b : n ≤ 3) (c random : List ℕ) (change : isChange c n ≡ true) (fair : accepting (answered t c random .status) ≡ true) where
   next : Tag

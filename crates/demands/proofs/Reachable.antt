@@ -12,11 +12,11 @@ use lib.Dec.{eqb, ltb}
 use lib.ListN.{length}
 use borrow.Author.Tests.{eqb-true, eq-eqb, ne-eqb, lt-ltb, le-ltb}
 use Rattle.base.specs.Decide.{pick, and, or, oneOf}
-use Rattle.base.specs.Bytes.{byteAt, AllBytes, over}
+use Rattle.base.specs.Bytes.{byteAt, AllBytes}
 use Rattle.base.proofs.Bytes.{and-right}
 use Rattle.aes.specs.Block.{IsBlock}
 use Rattle.messaging.specs.declared.Mode.{Mode}
-use Rattle.messaging.specs.declared.Mode.the-variants.{Plain, Mac, Full}
+use Rattle.messaging.specs.declared.Mode.the-variants.{Plain, Full}
 use Rattle.messaging.specs.declared.Session.{Session}
 use Rattle.messaging.specs.Protect.{messageMac, sent, signed, plain}
 use Rattle.opening.specs.Command.{sentCommand, opening}
@@ -24,28 +24,33 @@ use Rattle.closing.specs.Reply.{closed, overlong}
 use Rattle.both_ends.proofs.Messages.{sent-command-opens}
 use Rattle.fields.specs.declared.Head.{Head}
 use Rattle.fields.specs.declared.Settings.{Settings}
+use Rattle.spans.specs.declared.Reading.{Reading}
 use Rattle.settings.specs.declared.Verdict.the-variants.{Good}
 use Rattle.settings.specs.Answers.{judged}
 use Rattle.fields.specs.Fields.{readOf, stringOf}
 use Rattle.rules.specs.Rules.{meets}
 use Rattle.meanings.proofs.Mirrors.{good-length}
 use Rattle.meanings.proofs.OneMeaning.{one-string, string-bytes}
-use Rattle.access.specs.declared.Access.{Access}
-use Rattle.access.specs.declared.Access.the-variants.{In, Never as NeverIn, Denied as DeniedIn}
-use Rattle.access.specs.declared.Grant.the-variants.{ByKey, ByTap, Free, Never, Denied}
+use Rattle.order.specs.declared.Name.the-variants.{ChangeFileSettings}
+use Rattle.order.specs.declared.Command.{Command}
+use Rattle.access.specs.declared.Grant.{Grant}
+use Rattle.access.specs.declared.Grant.the-variants.{ByKey, ByTap, Free, Unasked, Never, Denied}
+use Rattle.access.specs.declared.Decision.{Decision}
 use Rattle.state.specs.declared.Live.{Live}
 use Rattle.state.specs.declared.Tag.{Tag}
-use Rattle.state.specs.State.{rulesOf, readingIn, talking, tapped, filed}
+use Rattle.state.specs.State.{rulesOf, readingIn, talking, tapped, filed, sessionOf}
 use Rattle.delivery.specs.Fresh.{rightUid}
-use Rattle.access.specs.Access.{granted, changeGrant, inMode as accessIn, accessFor}
+use Rattle.access.specs.Access.{granted, changeGrant, grantFor, underKey, modeFor, decided}
 use Rattle.soundness.specs.Sound.{soundTag}
-use Rattle.replies.specs.Answer.{Answer, given, accepted, afterwards, raised, sessionOf}
+use Rattle.replies.specs.Answer.{Answer, given, accepted, afterwards, raised}
 use Rattle.change_settings.specs.ChangeSettings.{restrung, byVerdict, changedSettings}
 use Rattle.tag.specs.declared.Outcome.the-variants.{Replied}
-use Rattle.order.specs.Order.{headerLength, hasData, frontStatus}
-use Rattle.wrapped.specs.Wrapped.{own, onOpening, fromStep7, onAccess, fromStep5}
-use Rattle.tag.specs.Call.{answered, withStatus, replyOf, outcomeOf, replied, byOutcome, roomBy}
-use Rattle.series.specs.Series.{step}
+use Rattle.order.specs.Order.{headerLength, hasData}
+use Rattle.order.specs.Commands.{wrappedCommand}
+use Rattle.wrapped.specs.Wrapped.{own, onOpening, wrapped}
+use Rattle.tag.specs.Way.{fromStep7, onGrant, fromStep6, answered}
+use Rattle.tag.specs.Call.{withStatus, replyOf, outcomeOf, replied, byOutcome, roomBy}
+use Rattle.series.specs.Series.{step, allows}
 use Rattle.series.proofs.Choices.{not-both, way}
 use Rattle.series.proofs.Computing.{soundness, access}
 use Rattle.series.proofs.Settled.{padOut, restored}
@@ -55,19 +60,9 @@ use Rattle.series.proofs.Born.{zeros-bytes}
 use Rattle.series.proofs.Changes.{short-none}
 use Rattle.demands.specs.Samples.{tagOf, sample}
 use Rattle.demands.specs.Reaching.{built, changeOf, carried, changing, asking, changed, Ready, UnderE, UnderKey, Reached}
-use Rattle.demands.proofs.Building.{against, wrapped-bound, wrapped-first, wrapped-filled, built-to-step5, front-passes}
+use Rattle.demands.proofs.Building.{against, wrapped-bound, wrapped-first, wrapped-filled, built-file, built-comes}
 
 -- ---- the due mode
-abbrev modeIn : Access → Mode
-modeIn (In m) = m
-modeIn NeverIn = Mac
-modeIn DeniedIn = Mac
-
-abbrev isIn : Access → Bool
-isIn (In m) = true
-isIn NeverIn = false
-isIn DeniedIn = false
-
 record KeyGrants (live : Bool) (key change : ℕ) (m : Mode) : Type 0 where
   on : live ≡ true
   right : change ≡ key
@@ -78,20 +73,22 @@ record EGrants (change : ℕ) (m : Mode) : Type 0 where
   mode : m ≡ Plain
 
 by-grant : (live : Bool) (key change : ℕ) (m : Mode) (k e f : Bool) → eqb change key ≡ k → eqb change 14 ≡ e
-    → accessIn (pick (and live (or k k)) ByKey (pick (and (pick live false true) false) ByTap (pick (or e e) Free (pick (and f (and f true)) Never Denied)))) Full ≡ In m
-    → KeyGrants live key change m ⊎ EGrants change m
-by-grant true key change m true e f p q a = inl (record { on = refl; right = eqb-true change key p; mode = sym (ap modeIn a) })
-by-grant true key change m false true f p q a = inr (record { right = eqb-true change 14 q; mode = sym (ap modeIn a) })
-by-grant true key change m false false true p q a = absurd (not-both (ap isIn a))
-by-grant true key change m false false false p q a = absurd (not-both (ap isIn a))
-by-grant false key change m k true f p q a = inr (record { right = eqb-true change 14 q; mode = sym (ap modeIn a) })
-by-grant false key change m k false true p q a = absurd (not-both (ap isIn a))
-by-grant false key change m k false false p q a = absurd (not-both (ap isIn a))
+    → let g = pick (and live (or k k)) ByKey (pick (and (pick live false true) false) ByTap (pick (or e e) Free (pick (and f (and f true)) Never Denied))) in
+    allows g ≡ true → underKey g Full ≡ m → KeyGrants live key change m ⊎ EGrants change m
+unfolding underKey
+by-grant true key change m true e f p q a d = inl (record { on = refl; right = eqb-true change key p; mode = sym d })
+by-grant true key change m false true f p q a d = inr (record { right = eqb-true change 14 q; mode = sym d })
+by-grant true key change m false false true p q a d = absurd (not-both a)
+by-grant true key change m false false false p q a d = absurd (not-both a)
+by-grant false key change m k true f p q a d = inr (record { right = eqb-true change 14 q; mode = sym d })
+by-grant false key change m k false true p q a d = absurd (not-both a)
+by-grant false key change m k false false p q a d = absurd (not-both a)
 
-change-due : (l : Live) (h : Head) (m : Mode) → accessFor 0x5F l h ≡ In m → KeyGrants (l .on) (l .key) (h .change) m ⊎ EGrants (h .change) m
-unfolding accessFor changeGrant granted
-change-due l h m e =
-    by-grant (l .on) (l .key) (h .change) m (eqb (h .change) (l .key)) (eqb (h .change) 14) (eqb (h .change) 15) refl refl e
+change-due : (l : Live) (h : Head) (m : Mode) → allows (grantFor ChangeFileSettings l h) ≡ true → decided ChangeFileSettings l h .mode ≡ m
+    → KeyGrants (l .on) (l .key) (h .change) m ⊎ EGrants (h .change) m
+unfolding grantFor changeGrant granted decided modeFor
+change-due l h m =
+    by-grant (l .on) (l .key) (h .change) m (eqb (h .change) (l .key)) (eqb (h .change) 14) (eqb (h .change) 15) refl refl
 
 -- ---- the steps behind the form
 not-full : (live : Bool) (counter : ℕ) → (live ≡ true → counter < 65535) → and live (eqb counter 65535) ≡ false
@@ -126,27 +123,51 @@ module _ (t : Tag) (n : ℕ) (m : Mode) (s : List ℕ) where
     unfolding carried sessionOf
     carried-opens = sent-command-opens (sessionOf (t .live)) m 0x5F (n ∷ []) true s k b (λ z. absurd (not-both (sym z)))
 
-module _ (t : Tag) (n : ℕ) (m : Mode) (s : List ℕ) (random : List ℕ) (P : Answer → Type 0) where
-  -- step 9: a good string is stored
-  own-accepts : judged n s ≡ Good → (x : List ℕ) → byteAt x 0 ≡ n
-      → P (given (changed t n s) 0x9100 (closed (sessionOf (raised (t .live))) m 0 [])) → P (own t 0x5F x s m random)
-  unfolding own changedSettings accepted changed restrung padOut tapped filed
-  own-accepts g x e p =
-      subst (λ k. P (changedSettings t k s m)) (sym e)
-      (subst (λ v. P (byVerdict t n s m v)) (sym g) (way P (overlong m 0) (λ z. against z (short-none m)) (λ z. p)))
+ready-allows : (t : Tag) (n : ℕ) (m : Mode) → Ready t n m
+    → allows (decided ChangeFileSettings (t .live) (readingIn (t .files) n .settings .head) .grant) ≡ true
+unfolding decided
+ready-allows t n m h = h .allowed
 
-  -- steps 5 to 8: the front, access, CmdCtr, and the message, which opens to the string
-  step5-owns : (x : List ℕ) → Ready t n m → 1 ≤ length x → byteAt x 0 ≡ n → opening (sessionOf (t .live)) m 0x5F x 1 true ≡ plain s
-      → P (own t 0x5F x s m random) → P (fromStep5 t 0x5F x random)
-  unfolding fromStep5 fromStep7 headerLength hasData oneOf
-  step5-owns x h l e o p =
-      way P (eqb (frontStatus 0x5F x (t .place .application)) 0)
-      (λ f.
-      subst (λ a. P (onAccess t 0x5F x random a))
-      (sym (ap (λ k. accessFor 0x5F (t .live) (readingIn (t .files) k .settings .head)) e ∙ h .grants))
+-- a grant lets the command on
+granted-on : (g : Grant) (t : Tag) (k : Command) (r : Reading) (d : Decision) (x random : List ℕ) (P : Answer → Type 0) → allows g ≡ true
+    → P (fromStep7 t k r d x random) → P (onGrant g t k r d x random)
+unfolding onGrant
+granted-on ByKey t k r d x random P a p = p
+granted-on ByTap t k r d x random P a p = p
+granted-on Free t k r d x random P a p = p
+granted-on Unasked t k r d x random P a p = p
+granted-on Never t k r d x random P a p = absurd (not-both a)
+granted-on Denied t k r d x random P a p = absurd (not-both a)
+
+module _ (t : Tag) (n : ℕ) (m : Mode) (s x : List ℕ) (random : List ℕ) (P : Answer → Type 0) where
+  abbrev k : Command
+  k = wrappedCommand ChangeFileSettings (built 0x5F x)
+
+  abbrev r : Reading
+  r = readingIn (t .files) n
+
+  abbrev d : Decision
+  d = decided ChangeFileSettings (t .live) (r .settings .head)
+
+  -- step 9: a good string is stored
+  own-accepts : judged n s ≡ Good → k .file ≡ n → d .mode ≡ m
+      → P (given (changed t n s) 0x9100 (closed (sessionOf (raised (t .live))) m 0 [])) → P (own ChangeFileSettings t k r d s random)
+  unfolding own changedSettings accepted changed restrung padOut tapped filed
+  own-accepts g f e p =
+      subst (λ i. P (changedSettings t i r s (d .mode))) (sym f)
+      (subst (λ j. P (changedSettings t n r s j)) (sym e)
+      (subst (λ v. P (byVerdict t n r s m v)) (sym g) (way P (overlong m 0) (λ z. against z (short-none m)) (λ z. p))))
+
+  -- steps 6 to 8: access, CmdCtr, and the message, which opens to the string
+  step6-owns : Ready t n m → length x ≤ 255 → opening (sessionOf (t .live)) m 0x5F x 1 true ≡ plain s
+      → P (own ChangeFileSettings t k r d s random) → P (fromStep6 t k r x random)
+  unfolding fromStep6 fromStep7 wrapped wrappedCommand built headerLength hasData oneOf
+  step6-owns h l o p =
+      granted-on (d .grant) t k r d x random P (ready-allows t n m h)
       (way P (and (t .live .on) (eqb (t .live .counter) 65535)) (λ z. against z (not-full (t .live .on) (t .live .counter) (h .counter)))
-      (λ z. subst (λ a. P (onOpening t 0x5F x m random a)) (sym o) p)))
-      (against (front-passes x (t .place .application) n l (h .application) e (h .first) (h .last)))
+      (λ z.
+      way P (ltb 255 (length x)) (λ z. against z (le-ltb 255 (length x) l))
+      (λ z. subst (λ a. P (onOpening t k r d random a)) (sym (ap (λ j. opening (sessionOf (t .live)) j 0x5F x 1 true) (h .decides) ∙ o)) p)))
 
 -- ---- the theorem
 module _ (t : Tag) (n : ℕ) (r : Settings) (m : Mode) (h : Ready t n m) (e : meets n r ≡ true) (random : List ℕ) where
@@ -158,9 +179,12 @@ module _ (t : Tag) (n : ℕ) (r : Settings) (m : Mode) (h : Ready t n m) (e : me
       let x = carried t m n s in
       let b = string-bytes n r e in
       let P : Answer → Type 0 = λ a. a ≡ given (changed t n s) 0x9100 (closed (sessionOf (raised (t .live))) m 0 []) in
-      built-to-step5 t x random P (carried-filled t n m s) (carried-short t n m s (h .typed .enc) b g) (h .idle)
-      (step5-owns t n m s random P x h (carried-filled t n m s) (carried-first t n m s) (carried-opens t n m s (h .typed .enc) b)
-      (own-accepts t n m s random P g x (carried-first t n m s) refl))
+      let filled = carried-filled t n m s in
+      let fits = carried-short t n m s (h .typed .enc) b g in
+      let is = carried-first t n m s in
+      built-comes x n filled fits is (h .first) (h .last) t random P (h .idle) (h .application)
+      (step6-owns t n m s x random P h fits (carried-opens t n m s (h .typed .enc) b)
+      (own-accepts t n m s x random P g (built-file x n filled fits is (h .first) (h .last)) (h .decides) refl))
 
   kept : rulesOf (changed t n (stringOf r) .files) n ≡ stringOf r
   unfolding changed afterwards restrung padOut talking tapped filed
@@ -213,7 +237,7 @@ module _ (t : Tag) (n : ℕ) (r : Settings) (m : Mode) (h : Ready t n m) (e : me
         command = ap (λ k. changing t k n (stringOf r)) (g .mode) ∙ plain-command;
         reply = reply-in Plain (g .mode) ∙ reply-plain (sessionOf (raised (t .live))) (changed t n (stringOf r));
       }))
-      (change-due (t .live) (readingIn (t .files) n .settings .head) m (h .grants))
+      (change-due (t .live) (readingIn (t .files) n .settings .head) m (h .allowed) (h .decides))
 
   module _ (room : List ℕ) (twenty : length random ≡ 20) (large : 258 ≤ length room) where
     replies : outcomeOf t random room ≡ Replied
@@ -244,10 +268,11 @@ module _ (t : Tag) (n : ℕ) (r : Settings) (m : Mode) (h : Ready t n m) (e : me
 -- ---- such tags are: of any UID, in the application, file 2 with Change 0 in session with key 0, or with Change E and no session
 module _ (uid : List ℕ) (u : rightUid uid ≡ true) where
   sample-ready : (live : Bool) (rights : ℕ) (m : Mode) → soundTag (sample uid live rights) ≡ true
-      → accessFor 0x5F (sample uid live rights .live) (readingIn (sample uid live rights .files) 2 .settings .head) ≡ In m
+      → allows (grantFor ChangeFileSettings (sample uid live rights .live) (readingIn (sample uid live rights .files) 2 .settings .head)) ≡ true
+      → decided ChangeFileSettings (sample uid live rights .live) (readingIn (sample uid live rights .files) 2 .settings .head) .mode ≡ m
       → Ready (sample uid live rights) 2 m
   unfolding sample tagOf
-  sample-ready live rights m s a =
+  sample-ready live rights m s a d =
       record {
         typed = record { rules = refl; lens = refl; enc = record { len = refl; bytes = zeros-bytes 16 } };
         sound = s;
@@ -255,7 +280,8 @@ module _ (uid : List ℕ) (u : rightUid uid ≡ true) where
         idle = refl;
         first = omega arith;
         last = omega arith;
-        grants = a;
+        allowed = a;
+        decides = d;
         counter = λ z. omega arith;
       }
 
@@ -263,4 +289,4 @@ module _ (uid : List ℕ) (u : rightUid uid ≡ true) where
   unfolding sample tagOf rightUid soundness access
   ready-samples =
       let four = and-right (eqb (length uid) 7) (eqb (byteAt uid 0) 4) u in
-      (sample-ready true 0xE0 Full (rw four refl) refl, sample-ready false 0xEE Plain (rw four refl) refl)
+      (sample-ready true 0xE0 Full (rw four refl) refl refl, sample-ready false 0xEE Plain (rw four refl) refl refl)

@@ -1,90 +1,72 @@
 -- Read and written alike: GetFileSettings gives the string that was accepted, in its normal form.
 use mathlib.Core.Path.{_≡_, refl, sym, _∙_, ap, subst}
-use mathlib.Core.Bool.{true, false, not}
+use mathlib.Core.Bool.{true, not}
 use mathlib.Core.List.{List, [], _∷_}
 use Prim.Native.Nat.{ℕ, _≤_}
 use native.Mathlib.Omega.{arith}
-use lib.Dec.{eqb, ltb}
+use lib.Dec.{eqb}
 use lib.ListN.{length}
-use borrow.Author.Tests.{eqb-true, eq-eqb}
-use Rattle.base.specs.Decide.{pick, and, or, oneOf}
+use borrow.Author.Tests.{eqb-true}
+use Rattle.base.specs.Decide.{pick, oneOf}
 use Rattle.base.specs.Bytes.{byteAt, low}
 use Rattle.base.proofs.Bytes.{and-left, and-right}
 use Rattle.messaging.specs.declared.Mode.the-variants.{Plain, Mac}
-use Rattle.opening.specs.declared.Opened.the-variants.{WrongLength, WrongMac, WrongPadding}
-use Rattle.messaging.specs.Protect.{Opening, plain, wrongLength, wrongMac, wrongPadding}
-use Rattle.opening.specs.Command.{openedStatus}
 use Rattle.closing.specs.Reply.{overlong, closedStatus}
 use Rattle.fields.specs.Normal.{normal}
+use Rattle.order.specs.declared.Name.the-variants.{GetFileSettings}
+use Rattle.order.specs.declared.Named.the-variants.{Known}
+use Rattle.order.specs.Names.{classOf, insOf, among, named}
+use Rattle.order.specs.Order.{commandData, headerLength, namesKey}
+use Rattle.order.specs.Commands.{wrappedCommand}
+use Rattle.access.specs.Access.{modeFor, decided}
 use Rattle.state.specs.declared.Tag.{Tag}
-use Rattle.state.specs.State.{sizeOf, rulesOf}
-use Rattle.access.specs.Access.{accessFor}
+use Rattle.state.specs.State.{sizeOf, rulesOf, readingIn}
 use Rattle.soundness.specs.Sound.{soundTag}
 use Rattle.replies.specs.Answer.{Answer, refusal, accepted}
-use Rattle.settings.specs.Filing.{fileStatus}
 use Rattle.details.specs.Details.{settingsReply, fileSettings}
-use Rattle.order.specs.Order.{formRight, commandData, wrappedCommands, orderStatus, headerLength, byteStatus, frontStatus}
-use Rattle.wrapped.specs.Wrapped.{own, openingOf, onOpening, fromStep7, fromStep5, commanded, wrapped}
-use Rattle.tag.specs.Call.{answered}
+use Rattle.wrapped.specs.Wrapped.{own}
+use Rattle.tag.specs.Way.{commanded, answered}
 use Rattle.series.specs.Series.{Asked, step, after, accepting, Typed}
 use Rattle.series.proofs.Choices.{not-both, way, not-true}
+use Rattle.series.proofs.Orders.{wrapped-file}
 use Rattle.demands.specs.Talks.{stringIn, changes, lastChange, untouched, asksSettings, readText, stringOfReply}
-use Rattle.demands.proofs.Changing.{order-refuses, front-says, form-refuses, long-refuses, full-refuses, length-refuses, mac-refuses, padding-refuses}
+use Rattle.demands.proofs.Coming.{Bars, length-bars, comes}
 use Rattle.demands.proofs.Series.{last-none, last-more, series-leaves}
 
-module _ (t : Tag) (c random : List ℕ) (class : byteAt c 0 ≡ 0x90) (command : byteAt c 1 ≡ 0xF5) where
-  abbrev P : Answer → Type 0
-  P a = accepting (a .status) ≡ true → a .text ≡ readText t (byteAt (commandData c) 0) (rulesOf (t .files) (byteAt (commandData c) 0))
+read-known : named 0x90 0xF5 ≡ Known GetFileSettings
+unfolding named among classOf insOf
+read-known = refl
 
-  refused : (s : ℕ) → accepting s ≡ false → P (refusal t s)
+module _ (t : Tag) (c random : List ℕ) (class : byteAt c 0 ≡ 0x90) (command : byteAt c 1 ≡ 0xF5) where
+  n : ℕ
+  n = byteAt (commandData c) 0
+
+  abbrev P : Answer → Type 0
+  P a = accepting (a .status) ≡ true → a .text ≡ readText t n (rulesOf (t .files) n)
+
+  refused : (s : ℕ) → Bars s → P (refusal t s)
   unfolding refusal
   refused s e h = absurd (not-both (sym e ∙ h))
 
-  own-read : (p : List ℕ) → P (own t 0xF5 (commandData c) p (pick (t .live .on) Mac Plain) random)
-  unfolding own fileSettings accepted closedStatus
-  own-read p =
-      let d = settingsReply (rulesOf (t .files) (byteAt (commandData c) 0)) (sizeOf (byteAt (commandData c) 0)) in
-      way P (overlong (pick (t .live .on) Mac Plain) (length d)) (λ e. refused 0x917E form-refuses) (λ e h. refl)
+  file-is : wrappedCommand GetFileSettings c .file ≡ n
+  unfolding n namesKey headerLength oneOf
+  file-is = wrapped-file GetFileSettings c 0xF5 command refl refl
 
-  opening-read : (o : Opening) → P (onOpening t 0xF5 (commandData c) (pick (t .live .on) Mac Plain) random o)
-  opening-read (plain p) = own-read p
-  opening-read wrongLength = refused (openedStatus WrongLength) length-refuses
-  opening-read wrongMac = refused (openedStatus WrongMac) mac-refuses
-  opening-read wrongPadding = refused (openedStatus WrongPadding) padding-refuses
+  settings-read : P (fileSettings t n (pick (t .live .on) Mac Plain))
+  unfolding fileSettings accepted closedStatus
+  settings-read =
+      let d = settingsReply (rulesOf (t .files) n) (sizeOf n) in
+      way P (overlong (pick (t .live .on) Mac Plain) (length d)) (λ e. refused 0x917E length-bars) (λ e h. refl)
 
-  step5-read : P (fromStep5 t 0xF5 (commandData c) random)
-  unfolding fromStep5 frontStatus byteStatus oneOf accessFor fromStep7
-  step5-read =
-      let short = ltb (length (commandData c)) (headerLength 0xF5) in
-      let s : ℕ = pick short 0x917E (pick (t .place .application) (fileStatus (byteAt (commandData c) 0)) 0x919D) in
-      way P (eqb s 0)
-      (λ e.
-      way P (and (t .live .on) (eqb (t .live .counter) 65535)) (λ z. refused 0x91AE full-refuses)
-      (λ z. opening-read (openingOf t 0xF5 (commandData c) (pick (t .live .on) Mac Plain))))
-      (λ e. refused s (front-says short (t .place .application) (byteAt (commandData c) 0)))
+  own-read : (p : List ℕ)
+      → P (own GetFileSettings t (wrappedCommand GetFileSettings c) (readingIn (t .files) n) (decided GetFileSettings (t .live) (readingIn (t .files) n .settings .head)) p random)
+  unfolding own decided modeFor
+  own-read p = subst (λ i. P (fileSettings t i (pick (t .live .on) Mac Plain))) (sym file-is) settings-read
 
-  commanded-read : P (commanded t 0xF5 (commandData c) random)
-  unfolding commanded
-  commanded-read = step5-read
-
-  wrapped-read : P (wrapped t c random)
-  unfolding wrapped orderStatus
-  wrapped-read =
-      let known = oneOf (byteAt c 1) wrappedCommands in
-      let zero = and (eqb (byteAt c 2) 0) (eqb (byteAt c 3) 0) in
-      let af = eqb (byteAt c 1) 0xAF in
-      let s : ℕ = pick known (pick zero (pick (t .pending .on) (pick af 0 0x91CA) (pick af 0x911C 0)) 0x919E) 0x911C in
-      way P (formRight c)
-      (λ f.
-      way P (eqb s 0) (λ e. subst (λ i. P (commanded t i (commandData c) random)) (sym command) commanded-read)
-      (λ e. refused s (order-refuses known zero (t .pending .on) af)))
-      (λ f. refused 0x917E form-refuses)
-
-  read-answer : P (answered t c random)
-  unfolding answered
+  read-answer : accepting (answered t c random .status) ≡ true → answered t c random .text ≡ readText t (byteAt (commandData c) 0) (rulesOf (t .files) (byteAt (commandData c) 0))
+  unfolding commanded n
   read-answer =
-      way P (or (ltb (length c) 4) (ltb 261 (length c))) (λ e. refused 0x6700 long-refuses)
-      (λ e. way P (eqb (byteAt c 0) 0x90) (λ z. wrapped-read) (λ z. absurd (not-both (sym z ∙ eq-eqb (byteAt c 0) 0x90 class))))
+      comes t random P refused GetFileSettings c n class (ap (named 0x90) command ∙ read-known) file-is (λ k r x. refl) (λ z a p o. own-read p)
 
 -- whatever tag answers GetFileSettings of file n gives 00, FileOption, rights, size and the rest of the string that it holds
 pub read-alike : (t : Tag) (n : ℕ) (c random : List ℕ) → asksSettings c n ≡ true → accepting (answered t c random .status) ≡ true

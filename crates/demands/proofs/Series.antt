@@ -10,6 +10,7 @@ use Rattle.base.specs.Decide.{pick, and}
 use Rattle.base.specs.Bytes.{byteAt}
 use Rattle.messaging.specs.declared.Mode.{Mode}
 use Rattle.closing.specs.Reply.{overlong}
+use Rattle.fields.specs.Fields.{sdmOn}
 use Rattle.fields.specs.Normal.{normal}
 use Rattle.state.specs.declared.Files.{Files}
 use Rattle.state.specs.declared.Tag.{Tag}
@@ -18,7 +19,7 @@ use Rattle.delivery.specs.Fresh.{deliveredFiles, freshTag}
 use Rattle.soundness.specs.Sound.{soundTag}
 use Rattle.replies.specs.Answer.{Answer, refusal, accepted, afterwards}
 use Rattle.file_parts.specs.Filing.{storedIso, withBytes}
-use Rattle.taps.specs.Taps.{shown, tapRead}
+use Rattle.taps.specs.Taps.{shown, shownPart, tapRead}
 use Rattle.auth.specs.Parts.{begun}
 use Rattle.part_two.specs.PartTwo.{enteredFirst, enteredNext, entered}
 use Rattle.change_settings.specs.ChangeSettings.{withRules, restrung}
@@ -26,7 +27,8 @@ use Rattle.selects.specs.Selects.{moved, selectedFile}
 use Rattle.tag.specs.declared.Outcome.{Outcome}
 use Rattle.tag.specs.declared.Outcome.the-variants.{Replied, SmallRoom, WrongRandom, Unsound}
 use Rattle.order.specs.Order.{commandData}
-use Rattle.tag.specs.Call.{answered, outcomeOf, replied, unanswered, byOutcome}
+use Rattle.tag.specs.Way.{answered}
+use Rattle.tag.specs.Call.{outcomeOf, replied, unanswered, byOutcome}
 use Rattle.series.specs.Series.{Asked, step, after, accepting, replies, accepts, Typed}
 use Rattle.series.proofs.Choices.{not-both, way}
 use Rattle.series.proofs.Walk.{Sent, Kinds, every-answer}
@@ -48,7 +50,7 @@ unfolding accepted refusal endedOf afterwards talking
 keeps-accepted t u n e m d = way (Keeps t n) (overlong m (length d)) (λ z. e) (λ z. e)
 
 keeps-kinds : (t : Tag) (c random : List ℕ) (n : ℕ) → and (eqb (byteAt c 0) 0x90) (eqb (byteAt c 1) 0x5F) ≡ false → Kinds t c random (Keeps t n)
-unfolding refusal endedOf begun entered enteredFirst enteredNext talking keyed afterwards filed withBytes tapRead tapped storedIso moved selectedFile rulesOf placed
+unfolding refusal endedOf begun entered enteredFirst enteredNext talking keyed afterwards filed withBytes tapRead shownPart tapped storedIso moved selectedFile rulesOf placed
 keeps-kinds t c random n other =
     record {
       refuses = λ s. refl;
@@ -61,7 +63,7 @@ keeps-kinds t c random n other =
       writes-iso = λ m at p. refl;
       restrings = λ m p mode s g. absurd (not-both (sym other ∙ sent s));
       taps =
-          λ m iso status refusing at count e s l p f.
+          λ m iso at count s l p f.
           way (Keeps t n) (eqb (shown t (readingIn (t .files) m) iso random .status) 0) (λ z. refl) (λ z. refl);
       reads-iso = λ m at count. refl;
       moves = λ application. refl;
@@ -72,9 +74,9 @@ keeps-kinds t c random n other =
     sent s = rw (s .class, s .command) refl
 
 -- ---- an accepted change puts its normal form, and leaves the other files' strings
-changed-rules : (t : Tag) (f : Files) (m : ℕ) (mode : Mode) → rulesOf (accepted (restrung t f m) mode [] .tag .files) ≡ rulesOf f
+changed-rules : (t : Tag) (before on : Bool) (f : Files) (mode : Mode) → rulesOf (accepted (restrung t before on f) mode [] .tag .files) ≡ rulesOf f
 unfolding accepted refusal endedOf afterwards restrung talking tapped filed
-changed-rules t f m mode = way (λ (a : Answer). rulesOf (a .tag .files) ≡ rulesOf f) (overlong mode 0) (λ z. refl) (λ z. refl)
+changed-rules t before on f mode = way (λ (a : Answer). rulesOf (a .tag .files) ≡ rulesOf f) (overlong mode 0) (λ z. refl) (λ z. refl)
 
 -- what is not accepted changes nothing
 never : (b : Bool) (x y : List ℕ) → y ≡ pick (and b false) x y
@@ -88,7 +90,9 @@ module _ (t : Tag) (f : Fine t) (c random : List ℕ) (n : ℕ) (small : slotOf 
   put a h =
       let m = byteAt (commandData c) 0 in
       let w = withRules (t .files) m (padOut (h .text)) (length (h .text)) in
-      let e : rulesOf (a .tag .files) n ≡ rulesOf w n = ap (λ x. rulesOf (x .tag .files) n) (h .is) ∙ ap (λ g. g n) (changed-rules t w m (h .mode)) in
+      let before = readingIn (t .files) m .settings .head .sdm in
+      let e : rulesOf (a .tag .files) n ≡ rulesOf w n =
+      ap (λ x. rulesOf (x .tag .files) n) (h .is) ∙ ap (λ g. g n) (changed-rules t before (sdmOn (h .text)) w (h .mode)) in
       e ∙ by (eqb m n) refl
     where
       by : (b : Bool) → eqb (byteAt (commandData c) 0) n ≡ b

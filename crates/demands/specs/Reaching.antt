@@ -12,19 +12,20 @@ use Rattle.messaging.specs.Protect.{messageMac}
 use Rattle.opening.specs.Command.{sentCommand}
 use Rattle.closing.specs.Reply.{closed}
 use Rattle.fields.specs.declared.Settings.{Settings}
-use Rattle.fields.specs.Fields.{readOf, stringOf}
+use Rattle.fields.specs.Fields.{sdmOn, readOf, stringOf}
 use Rattle.fields.specs.Normal.{normal}
 use Rattle.meanings.specs.Meaning.{OneString}
-use Rattle.access.specs.declared.Access.the-variants.{In}
+use Rattle.order.specs.declared.Name.the-variants.{ChangeFileSettings}
 use Rattle.state.specs.declared.Tag.{Tag}
-use Rattle.state.specs.State.{rulesOf, readingIn}
-use Rattle.access.specs.Access.{accessFor}
+use Rattle.state.specs.State.{rulesOf, readingIn, sessionOf}
+use Rattle.access.specs.Access.{grantFor, decided}
 use Rattle.soundness.specs.Sound.{soundTag}
-use Rattle.replies.specs.Answer.{given, afterwards, raised, sessionOf}
+use Rattle.replies.specs.Answer.{given, afterwards, raised}
 use Rattle.change_settings.specs.ChangeSettings.{withRules, restrung}
 use Rattle.tag.specs.declared.Outcome.the-variants.{Replied}
-use Rattle.tag.specs.Call.{answered, replyOf, outcomeOf, roomBy}
-use Rattle.series.specs.Series.{Asked, step, Typed}
+use Rattle.tag.specs.Way.{answered}
+use Rattle.tag.specs.Call.{replyOf, outcomeOf, roomBy}
+use Rattle.series.specs.Series.{Asked, step, allows, Typed}
 
 -- CLA 90, INS, P1 P2 0000, Lc, data, Le 00
 unfoldable pub built : ℕ → List ℕ → List ℕ
@@ -47,7 +48,9 @@ asking t n r m random room = record { command = changing t m n (stringOf r); ran
 
 -- the tag with that string, after an accepted command
 unfoldable pub changed : Tag → ℕ → List ℕ → Tag
-changed t n s = afterwards (restrung t (withRules (t .files) n (normal s ++ replicate (27 - length s) 0) (length s)) n)
+changed t n s =
+    let f = withRules (t .files) n (normal s ++ replicate (27 - length s) 0) (length s) in
+    afterwards (restrung t (readingIn (t .files) n .settings .head .sdm) (sdmOn s) f)
 
 -- a sound tag in the application, no part two pending, that grants the change of file n, in mode m; in session CmdCtr is below
 -- 65,535
@@ -58,7 +61,8 @@ pub record Ready (t : Tag) (n : ℕ) (m : Mode) : Type 0 where
   pub idle : t .pending .on ≡ false
   pub first : 1 ≤ n
   pub last : n ≤ 3
-  pub grants : accessFor 0x5F (t .live) (readingIn (t .files) n .settings .head) ≡ In m
+  pub allowed : allows (grantFor ChangeFileSettings (t .live) (readingIn (t .files) n .settings .head)) ≡ true
+  pub decides : decided ChangeFileSettings (t .live) (readingIn (t .files) n .settings .head) .mode ≡ m
   pub counter : t .live .on ≡ true → t .live .counter < 65535
 
 -- under E: the command is plain, and the reply is 9100 alone

@@ -16,7 +16,8 @@ use Rattle.soundness.specs.Sound.{soundTag}
 use Rattle.replies.specs.Answer.{Answer}
 use Rattle.details.specs.Details.{settingsReply}
 use Rattle.tag.specs.declared.Outcome.the-variants.{Replied, SmallRoom, WrongRandom, Unsound}
-use Rattle.tag.specs.Call.{answered, outcomeOf}
+use Rattle.tag.specs.Way.{answered}
+use Rattle.tag.specs.Call.{outcomeOf}
 use Rattle.series.specs.Series.{Asked, step, after}
 use Rattle.series.specs.Worked.{selectApplication, settingsOf, inApplication}
 use Rattle.demands.specs.Talks.{Said, saidAll, stringIn, lastChange, readText, stringOfReply, delivered, telling}

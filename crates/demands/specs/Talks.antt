@@ -7,25 +7,25 @@ use lib.Dec.{eqb}
 use lib.ListN.{take, drop, replicate}
 use Rattle.base.specs.Decide.{pick, and}
 use Rattle.base.specs.Bytes.{byteAt}
-use Rattle.messaging.specs.declared.Mode.{Mode}
 use Rattle.messaging.specs.declared.Mode.the-variants.{Plain, Mac}
 use Rattle.closing.specs.Reply.{closed}
 use Rattle.messaging.specs.Protect.{Opening, plain, wrongLength, wrongMac, wrongPadding}
 use Rattle.fields.specs.Normal.{normal}
-use Rattle.access.specs.declared.Access.{Access}
-use Rattle.access.specs.declared.Access.the-variants.{In, Never, Denied}
 use Rattle.state.specs.declared.Tag.{Tag}
-use Rattle.state.specs.State.{sizeOf, readingIn}
+use Rattle.state.specs.State.{sizeOf, readingIn, sessionOf}
 use Rattle.delivery.specs.Fresh.{firstRules, secondRules, thirdRules}
-use Rattle.access.specs.Access.{accessFor}
-use Rattle.replies.specs.Answer.{Answer, raised, sessionOf}
+use Rattle.access.specs.Access.{decided}
+use Rattle.replies.specs.Answer.{Answer, raised}
 use Rattle.details.specs.Details.{settingsReply}
 use Rattle.tag.specs.declared.Outcome.{Outcome}
 use Rattle.tag.specs.declared.Outcome.the-variants.{Replied, SmallRoom, WrongRandom, Unsound}
 use Rattle.tag.specs.declared.Called.{Called}
+use Rattle.order.specs.declared.Name.the-variants.{ChangeFileSettings}
 use Rattle.order.specs.Order.{commandData}
+use Rattle.order.specs.Commands.{wrappedCommand}
 use Rattle.wrapped.specs.Wrapped.{openingOf}
-use Rattle.tag.specs.Call.{answered, replyOf, outcomeOf, Calls}
+use Rattle.tag.specs.Way.{answered}
+use Rattle.tag.specs.Call.{replyOf, outcomeOf, Calls}
 use Rattle.series.specs.Series.{Asked, step, after, accepts}
 use Rattle.series.specs.Worked.{selectApplication, settingsOf}
 
@@ -94,11 +94,6 @@ pub record SpeaksAll (t : Tag) (asked : List Asked) (had : List Had) : Type 0 wh
 unfoldable pub isChange : List ℕ → ℕ → Bool
 isChange c n = and (eqb (byteAt c 0) 0x90) (and (eqb (byteAt c 1) 0x5F) (eqb (byteAt (commandData c) 0) n))
 
-abbrev pub modeOf : Access → Mode
-modeOf (In m) = m
-modeOf Never = Plain
-modeOf Denied = Plain
-
 abbrev pub plainOf : Opening → List ℕ
 plainOf (plain p) = p
 plainOf wrongLength = []
@@ -109,7 +104,7 @@ plainOf wrongPadding = []
 unfoldable pub stringIn : Tag → List ℕ → List ℕ
 stringIn t c =
     let h = readingIn (t .files) (byteAt (commandData c) 0) .settings .head in
-    plainOf (openingOf t 0x5F (commandData c) (modeOf (accessFor 0x5F (t .live) h)))
+    plainOf (openingOf t (wrappedCommand ChangeFileSettings c) (commandData c) (decided ChangeFileSettings (t .live) h .mode))
 
 -- a call that changes the settings of file n: it is a change of that file, and the reply accepts it
 unfoldable pub changes : Tag → Asked → ℕ → Bool

@@ -24,9 +24,9 @@ use Rattle.spans.specs.Spans.{allApart, inside, readingOf}
 use Rattle.spans.specs.declared.Reading.{Reading}
 use Rattle.spans.specs.declared.Span.{Span}
 use Rattle.rules.specs.Numbers.{findingNumber, firstNumber}
-use Rattle.rules.specs.Rules.{found, meets, rules}
+use Rattle.rules.specs.Rules.{found, meets, rules, examined}
 use Rattle.rules.specs.declared.Finding.{Finding}
-use Rattle.settings.specs.Answers.{judged, readAs, statusWord, toldWord, verdictWord}
+use Rattle.settings.specs.Answers.{judged, readAs, statusWord, toldWord, verdictWord, seen}
 use Rattle.settings.specs.Filing.{fileFaultWord, fileJudged, fileStatus, filedWord}
 use Rattle.settings.specs.declared.FileFault.{FileFault}
 use Rattle.settings.specs.declared.Filed.{Filed}
@@ -62,6 +62,9 @@ use Rattle.mirror.specs.Mirrors.{laidOf}
 use Rattle.mirror.specs.declared.Laid.{Laid}
 use Rattle.mirror.specs.declared.Mirror.{Mirror}
 use Rattle.determined.specs.Determining.{Determined, DeterminedIn}
+use Rattle.rules.specs.declared.Examined.{Examined}
+use Rattle.settings.specs.declared.Seen.{Seen}
+use Rattle.fields.specs.Normal.{normal}
 use Rattle.determined.proofs.Determined.{once, twice, chains-once, pads-once, opens-once, closes-once, hides-once}
 
 -- ---- base
@@ -203,6 +206,10 @@ pub meaning-determined : (s : List ℕ) → Determined (λ (r : Reading). r ≡ 
 meaning-determined s = once
 
 -- ---- rules
+pub examine-determined : (file : ℕ) (s : List ℕ)
+    → Determined (λ (r : Examined). (r ≡ examined file s) × (findingNumber (r .finding) ≡ firstNumber (rules file s)))
+examine-determined file s r q p h = once r q (p .0) (h .0)
+
 pub broken-determined : (file : ℕ) (s : List ℕ)
     → Determined (λ (r : Finding). (r ≡ found (rules file s)) × (findingNumber r ≡ firstNumber (rules file s)))
 broken-determined file s r q p h = once r q (p .0) (h .0)
@@ -211,6 +218,9 @@ pub meets-determined : (file : ℕ) (r : Settings) → Determined (λ (x : Bool)
 meets-determined file r = once
 
 -- ---- settings
+pub see-determined : (file : ℕ) (s : List ℕ) → Determined (λ (r : Seen). r ≡ seen file s)
+see-determined file s = once
+
 pub status-word-determined : (s : Status) → Determined (λ (r : ℕ). r ≡ statusWord s)
 status-word-determined s = once
 
@@ -228,6 +238,9 @@ pub read-determined : (file : ℕ) (s : List ℕ)
 read-determined file s r q p h = once r q (p .0) (h .0)
 
 -- ---- normalising
+pub is-normal-determined : (s : List ℕ) → Determined (λ (r : Bool). r ≡ same s (normal s))
+is-normal-determined s = once
+
 pub normalise-determined : (file : ℕ) (s room : List ℕ)
     → DeterminedIn (λ (r : Normalised) (new : List ℕ). (r ≡ normalised (judged file s) s room) × (new ≡ normalRoom (judged file s) s room))
 normalise-determined file s room = twice

@@ -1,49 +1,57 @@
 -- Each public function of the floors from state to tag: its promise, as the source states it, determines the result and the lent
 -- room. An answer (Done) is determined up to the bytes behind its length. The other public function of crate tag is `fresh` of delivery.
+use mathlib.Core.Path.{_≡_}
 use mathlib.Core.Bool.{Bool}
 use mathlib.Core.List.{List}
-use mathlib.Core.Path.{_≡_}
 use Prim.Native.Nat.{ℕ, min}
 use lib.ListN.{take}
 use Rattle.fields.specs.declared.Head.{Head}
 use Rattle.spans.specs.declared.Reading.{Reading}
 use Rattle.messaging.specs.declared.Mode.{Mode}
 use Rattle.messaging.specs.declared.Session.{Session}
-use Rattle.state.specs.State.{endedOf, headIn, keyIn, noLive, noPending, quieted, readingIn, sizeOf, slotOf, startOf, stringAt, talking}
+use Rattle.state.specs.State.{endedOf, keyIn, noLive, noPending, quieted, readingIn, sizeOf, slotOf, startOf, stringAt, talking, sessionOf}
 use Rattle.state.specs.declared.Files.{Files}
 use Rattle.state.specs.declared.Live.{Live}
 use Rattle.state.specs.declared.Pending.{Pending}
 use Rattle.state.specs.declared.Tag.{Tag}
 use Rattle.state.specs.declared.Tapping.{Tapping}
-use Rattle.order.specs.Order.{formRight, frontStatus, hasData, headerLength, keyStatus, orderStatus}
-use Rattle.replies.specs.Answer.{Gives, accepted, afterwards, given, refusal, sessionOf, usedUp}
+use Rattle.order.specs.Order.{keyStatus}
+use Rattle.replies.specs.Answer.{Gives, accepted, afterwards, given, refusal, roomGiven}
 use Rattle.replies.specs.declared.Done.{Done}
 use Rattle.replies.specs.declared.Excerpt.{Excerpt}
-use Rattle.auth.specs.Parts.{partOneFirst, partOneNext, roomGiven}
+use Rattle.auth.specs.Parts.{partOneFirst, partOneNext}
 use Rattle.keyring.specs.Keyring.{changedKey, keyVersion}
 use Rattle.details.specs.Details.{cardUid, fileCounters, fileSettings}
 use Rattle.file_parts.specs.Filing.{partOf, stored, storedIso, withBytes}
-use Rattle.taps.specs.Taps.{isTap, shown, tapRead}
-use Rattle.taps.specs.declared.Shown.{Shown}
+use Rattle.taps.specs.Taps.{tapRead}
 use Rattle.contents.specs.Contents.{readData, writtenData}
 use Rattle.selects.specs.Selects.{selected}
-use Rattle.access.specs.Access.{accessFor, readGrant, writeGrant}
-use Rattle.access.specs.declared.Access.{Access}
-use Rattle.access.specs.declared.Grant.{Grant}
-use Rattle.binaries.specs.Binaries.{readBinary, updatedBinary}
+use Rattle.access.specs.Access.{decided}
+use Rattle.binaries.specs.Binaries.{binary}
 use Rattle.delivery.specs.Fresh.{Births}
 use Rattle.delivery.specs.declared.Birth.{Birth}
-use Rattle.inter_industry.specs.InterIndustry.{interIndustry}
-use Rattle.soundness.specs.Sound.{soundTag}
+use Rattle.soundness.specs.Sound.{soundTag, judgedTag}
 use Rattle.change_settings.specs.ChangeSettings.{changedSettings}
 use Rattle.part_two.specs.PartTwo.{partTwoAnswer}
 use Rattle.wrapped.specs.Wrapped.{wrapped}
 use Rattle.tag.specs.Call.{Calls}
 use Rattle.tag.specs.declared.Called.{Called}
 use Rattle.determined.specs.Determining.{Determined, DeterminedIn, DeterminedText}
+use Rattle.order.specs.Commands.{ordered, orderedNumber}
+use Rattle.order.specs.declared.Ordered.{Ordered}
+use Rattle.access.specs.declared.Decision.{Decision}
+use Rattle.order.specs.declared.Name.{Name}
+use Rattle.soundness.specs.declared.Judged.{Judged}
+use Rattle.order.specs.declared.Command.{Command}
 use Rattle.determined.proofs.Determined.{once, calls-once, births-once, gives-once}
 
 -- ---- state
+pub session-of-determined : (l : Live) → Determined (λ (r : Session). r ≡ sessionOf l)
+session-of-determined l = once
+
+pub talking-determined : (tag : Tag) (l : Live) (p : Pending) → Determined (λ (r : Tag). r ≡ talking tag l p)
+talking-determined tag l p = once
+
 pub ended-determined : (tag : Tag) → Determined (λ (r : Tag). r ≡ endedOf tag)
 ended-determined tag = once
 
@@ -52,9 +60,6 @@ file-size-determined n = once
 
 pub file-start-determined : (n : ℕ) → Determined (λ (r : ℕ). r ≡ startOf n)
 file-start-determined n = once
-
-pub head-in-determined : (rules lens : List ℕ) (n : ℕ) → Determined (λ (r : Head). r ≡ headIn rules lens n)
-head-in-determined rules lens n = once
 
 pub key-of-determined : (keys : List ℕ) (k : ℕ) → Determined (λ (r : List ℕ). r ≡ keyIn keys k)
 key-of-determined keys k = once
@@ -78,25 +83,17 @@ pub string-in-determined : (rules lens : List ℕ) (n : ℕ) → Determined (λ 
 string-in-determined rules lens n = once
 
 -- ---- order
-pub form-right-determined : (c : List ℕ) → Determined (λ (r : Bool). r ≡ formRight c)
-form-right-determined c = once
-
-pub order-status-determined : (ins p1 p2 : ℕ) (pending : Bool) → Determined (λ (r : ℕ). r ≡ orderStatus ins p1 p2 pending)
-order-status-determined ins p1 p2 pending = once
-
-pub header-length-determined : (ins : ℕ) → Determined (λ (r : ℕ). r ≡ headerLength ins)
-header-length-determined ins = once
-
-pub has-data-determined : (ins : ℕ) → Determined (λ (r : Bool). r ≡ hasData ins)
-has-data-determined ins = once
+pub command-in-determined : (c : List ℕ) (pending application : Bool) (file : ℕ)
+    → Determined (λ (r : Ordered). (r ≡ ordered c pending application file) × (orderedNumber r ≡ orderedNumber (ordered c pending application file)))
+command-in-determined c pending application file r q p h = once r q (p .0) (h .0)
 
 pub key-status-determined : (k : ℕ) → Determined (λ (r : ℕ). r ≡ keyStatus k)
 key-status-determined k = once
 
-pub front-status-determined : (ins : ℕ) (x : List ℕ) (application : Bool) → Determined (λ (r : ℕ). r ≡ frontStatus ins x application)
-front-status-determined ins x application = once
-
 -- ---- replies
+pub give-text-determined : (tag : Tag) (status : ℕ) (e : List ℕ) → DeterminedText (λ (r : Done). Gives (roomGiven tag status e) r)
+give-text-determined tag status e = gives-once
+
 pub smaller-determined : (a b : ℕ) → Determined (λ (r : ℕ). r ≡ min a b)
 smaller-determined a b = once
 
@@ -107,12 +104,6 @@ pub give-determined : (tag : Tag) (status : ℕ) (bytes : List ℕ) (n : ℕ)
     → DeterminedText (λ (r : Done). Gives (given tag status (take (min n 256) bytes)) r)
 give-determined tag status bytes n = gives-once
 
-pub used-up-determined : (on : Bool) (counter : ℕ) → Determined (λ (r : Bool). r ≡ usedUp on counter)
-used-up-determined on counter = once
-
-pub session-of-determined : (l : Live) → Determined (λ (r : Session). r ≡ sessionOf l)
-session-of-determined l = once
-
 pub after-determined : (tag : Tag) → Determined (λ (r : Tag). r ≡ afterwards tag)
 after-determined tag = once
 
@@ -121,12 +112,6 @@ pub accept-determined : (tag : Tag) (m : Mode) (bytes : List ℕ) (n : ℕ)
 accept-determined tag m bytes n = gives-once
 
 -- ---- auth
-pub talking-determined : (tag : Tag) (l : Live) (p : Pending) → Determined (λ (r : Tag). r ≡ talking tag l p)
-talking-determined tag l p = once
-
-pub reply-determined : (tag : Tag) (status : ℕ) (e : List ℕ) → DeterminedText (λ (r : Done). Gives (roomGiven tag status e) r)
-reply-determined tag status e = gives-once
-
 pub first-determined : (tag : Tag) (x random : List ℕ) → DeterminedText (λ (r : Done). Gives (partOneFirst tag x random) r)
 first-determined tag x random = gives-once
 
@@ -164,68 +149,51 @@ pub with-bytes-determined : (f : Files) (n at : ℕ) (p : List ℕ) → Determin
 with-bytes-determined f n at p = once
 
 -- ---- taps
-pub is-tap-determined : (sdm live : Bool) → Determined (λ (r : Bool). r ≡ isTap sdm live)
-is-tap-determined sdm live = once
-
-pub read-tap-determined : (tag : Tag) (s : Shown) (accepting refusing at count : ℕ)
-    → DeterminedText (λ (r : Done). Gives (tapRead tag s accepting refusing at count) r)
-read-tap-determined tag s accepting refusing at count = gives-once
-
-pub show-determined : (tag : Tag) (r : Reading) (iso : Bool) (random : List ℕ) → Determined (λ (s : Shown). s ≡ shown tag r iso random)
-show-determined tag r iso random = once
+pub read-tap-determined : (tag : Tag) (r : Reading) (iso : Bool) (at count : ℕ) (random : List ℕ) → DeterminedText (λ (d : Done). Gives (tapRead tag r iso at count random) d)
+read-tap-determined tag r iso at count random = gives-once
 
 -- ---- contents
-pub read-data-determined : (tag : Tag) (n : ℕ) (x : List ℕ) (m : Mode) (random : List ℕ)
-    → DeterminedText (λ (r : Done). Gives (readData tag n x m random) r)
-read-data-determined tag n x m random = gives-once
+pub read-data-determined : (tag : Tag) (k : Command) (r : Reading) (d : Decision) (random : List ℕ) → DeterminedText (λ (x : Done). Gives (readData tag k r d random) x)
+read-data-determined tag k r d random = gives-once
 
-pub write-data-determined : (tag : Tag) (n : ℕ) (x p : List ℕ) (m : Mode) → DeterminedText (λ (r : Done). Gives (writtenData tag n x p m) r)
-write-data-determined tag n x p m = gives-once
+pub write-data-determined : (tag : Tag) (k : Command) (p : List ℕ) (m : Mode) → DeterminedText (λ (r : Done). Gives (writtenData tag k p m) r)
+write-data-determined tag k p m = gives-once
 
 -- ---- selects
 pub select-determined : (tag : Tag) (p1 p2 : ℕ) (d : List ℕ) → DeterminedText (λ (r : Done). Gives (selected tag p1 p2 d) r)
 select-determined tag p1 p2 d = gives-once
 
 -- ---- access
-pub access-for-determined : (ins : ℕ) (l : Live) (h : Head) → Determined (λ (r : Access). r ≡ accessFor ins l h)
-access-for-determined ins l h = once
-
-pub read-grant-determined : (l : Live) (h : Head) → Determined (λ (r : Grant). r ≡ readGrant l h)
-read-grant-determined l h = once
-
-pub write-grant-determined : (l : Live) (h : Head) → Determined (λ (r : Grant). r ≡ writeGrant l h)
-write-grant-determined l h = once
+pub decide-determined : (name : Name) (l : Live) (h : Head) → Determined (λ (r : Decision). r ≡ decided name l h)
+decide-determined name l h = once
 
 -- ---- binaries
-pub read-binary-determined : (tag : Tag) (at le : ℕ) (random : List ℕ) → DeterminedText (λ (r : Done). Gives (readBinary tag at le random) r)
-read-binary-determined tag at le random = gives-once
-
-pub update-binary-determined : (tag : Tag) (at : ℕ) (d : List ℕ) → DeterminedText (λ (r : Done). Gives (updatedBinary tag at d) r)
-update-binary-determined tag at d = gives-once
+pub binary-determined : (tag : Tag) (k : Command) (r : Reading) (d : Decision) (x random : List ℕ) → DeterminedText (λ (y : Done). Gives (binary tag k r d x random) y)
+binary-determined tag k r d x random = gives-once
 
 -- ---- delivery
 pub fresh-determined : (uid : List ℕ) → Determined (λ (r : Birth). Births uid r)
 fresh-determined uid = births-once
 
 -- ---- inter_industry
-pub inter-industry-determined : (tag : Tag) (c random : List ℕ) → DeterminedText (λ (r : Done). Gives (interIndustry tag c random) r)
-inter-industry-determined tag c random = gives-once
-
 -- ---- soundness
+pub judge-tag-determined : (t : Tag) → Determined (λ (r : Judged). r ≡ judgedTag t)
+judge-tag-determined t = once
+
 pub sound-determined : (t : Tag) → Determined (λ (r : Bool). r ≡ soundTag t)
 sound-determined t = once
 
 -- ---- change_settings
-pub change-settings-determined : (tag : Tag) (n : ℕ) (p : List ℕ) (m : Mode) → DeterminedText (λ (r : Done). Gives (changedSettings tag n p m) r)
-change-settings-determined tag n p m = gives-once
+pub change-settings-determined : (tag : Tag) (n : ℕ) (r : Reading) (p : List ℕ) (m : Mode) → DeterminedText (λ (d : Done). Gives (changedSettings tag n r p m) d)
+change-settings-determined tag n r p m = gives-once
 
 -- ---- part_two
 pub second-determined : (tag : Tag) (x random : List ℕ) → DeterminedText (λ (r : Done). Gives (partTwoAnswer tag x random) r)
 second-determined tag x random = gives-once
 
 -- ---- wrapped
-pub wrapped-determined : (tag : Tag) (c random : List ℕ) → DeterminedText (λ (r : Done). Gives (wrapped tag c random) r)
-wrapped-determined tag c random = gives-once
+pub wrapped-determined : (tag : Tag) (k : Command) (r : Reading) (d : Decision) (x random : List ℕ) → DeterminedText (λ (y : Done). Gives (wrapped tag k r d x random) y)
+wrapped-determined tag k r d x random = gives-once
 
 -- ---- tag
 pub call-determined : (tag : Tag) (command random room : List ℕ)

@@ -38,30 +38,30 @@ headOf s =
       mode = modeOf (byteAt s 0);
       read = byteAt s 2 / 16;
       write = byteAt s 2 % 16;
-      both = byteAt s 1 / 16;
+      «read_write» = byteAt s 1 / 16;
       change = byteAt s 1 % 16;
       sdm = sdmOn s;
       uid = bit 7 (sdmByte s 3);
       counter = bit 6 (sdmByte s 3);
       limit = bit 5 (sdmByte s 3);
       enc = bit 4 (sdmByte s 3);
-      meta = sdmByte s 5 / 16;
-      file = sdmByte s 5 % 16;
-      ret = sdmByte s 4 % 16;
+      «sdm_meta_read» = sdmByte s 5 / 16;
+      «sdm_file_read» = sdmByte s 5 % 16;
+      «sdm_ctr_ret» = sdmByte s 4 % 16;
     }
 
 -- Which of the fields behind are present (Table 69, "present if")
 unfoldable pub hasUid : Head → Bool
-hasUid h = and (h .uid) (eqb (h .meta) 14)
+hasUid h = and (h .uid) (eqb (h .«sdm_meta_read») 14)
 
 unfoldable pub hasCounter : Head → Bool
-hasCounter h = and (h .counter) (eqb (h .meta) 14)
+hasCounter h = and (h .counter) (eqb (h .«sdm_meta_read») 14)
 
 unfoldable pub hasPicc : Head → Bool
-hasPicc h = and (h .sdm) (leb (h .meta) 4)
+hasPicc h = and (h .sdm) (leb (h .«sdm_meta_read») 4)
 
 unfoldable pub hasMac : Head → Bool
-hasMac h = and (h .sdm) (not (eqb (h .file) 15))
+hasMac h = and (h .sdm) (not (eqb (h .«sdm_file_read») 15))
 
 unfoldable pub hasEnc : Head → Bool
 hasEnc h = and (h .enc) (hasMac h)
@@ -125,13 +125,13 @@ sizeOf h = pick (h .sdm) (ends 6 (present h)) 3
 
 -- The string of a record: reserved bits 0, those of the SDM rights F, Plain as 00, ASCII (SDMOptions bit 0)
 unfoldable pub frontBytes : Head → List ℕ
-frontBytes h = (h .mode + 64 * one (h .sdm)) ∷ (h .both * 16 + h .change) ∷ (h .read * 16 + h .write) ∷ []
+frontBytes h = (h .mode + 64 * one (h .sdm)) ∷ (h .«read_write» * 16 + h .change) ∷ (h .read * 16 + h .write) ∷ []
 
 unfoldable pub sdmBytes : Head → List ℕ
 sdmBytes h =
     (128 * one (h .uid) + 64 * one (h .counter) + 32 * one (h .limit) + 16 * one (h .enc) + 1)
-    ∷ (240 + h .ret)
-    ∷ (h .meta * 16 + h .file)
+    ∷ (240 + h .«sdm_ctr_ret»)
+    ∷ (h .«sdm_meta_read» * 16 + h .«sdm_file_read»)
     ∷ []
 
 unfoldable pub stringOf : Settings → List ℕ

@@ -40,41 +40,41 @@ pub fn head(s: &[u8]) -> Head
         mode: mode_of(base::at(s, 0)),
         read: high / 16,
         write: high % 16,
-        both: low / 16,
+        read_write: low / 16,
         change: low % 16,
         sdm: sdm_on(s),
         uid: o / 128 % 2 == 1,
         counter: o / 64 % 2 == 1,
         limit: o / 32 % 2 == 1,
         enc: o / 16 % 2 == 1,
-        meta: sdm_high / 16,
-        file: sdm_high % 16,
-        ret: sdm_byte(s, 4) % 16,
+        sdm_meta_read: sdm_high / 16,
+        sdm_file_read: sdm_high % 16,
+        sdm_ctr_ret: sdm_byte(s, 4) % 16,
     }
 }
 
 pub fn has_uid(h: Head) -> bool
     ensures { λ r. ⌜ r ≡ hasUid h ⌝ }
 {
-    truth::both(h.uid, h.meta == 14)
+    truth::both(h.uid, h.sdm_meta_read == 14)
 }
 
 pub fn has_counter(h: Head) -> bool
     ensures { λ r. ⌜ r ≡ hasCounter h ⌝ }
 {
-    truth::both(h.counter, h.meta == 14)
+    truth::both(h.counter, h.sdm_meta_read == 14)
 }
 
 pub fn has_picc(h: Head) -> bool
     ensures { λ r. ⌜ r ≡ hasPicc h ⌝ }
 {
-    truth::both(h.sdm, h.meta <= 4)
+    truth::both(h.sdm, h.sdm_meta_read <= 4)
 }
 
 pub fn has_mac(h: Head) -> bool
     ensures { λ r. ⌜ r ≡ hasMac h ⌝ }
 {
-    truth::both(h.sdm, truth::negate(h.file == 15))
+    truth::both(h.sdm, truth::negate(h.sdm_file_read == 15))
 }
 
 pub fn has_enc(h: Head) -> bool

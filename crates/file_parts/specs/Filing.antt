@@ -3,6 +3,7 @@ use mathlib.Core.List.{List}
 use Prim.Native.Nat.{ℕ, _+_, min}
 use lib.ListN.{length, take, drop, replicate}
 use Rattle.base.specs.Bytes.{laid}
+use Rattle.base.specs.Status.{isoNormal}
 use Rattle.messaging.specs.declared.Mode.{Mode}
 use Rattle.state.specs.declared.Files.{Files}
 use Rattle.state.specs.declared.Tag.{Tag}
@@ -22,7 +23,7 @@ unfoldable pub stored : Tag → Mode → ℕ → ℕ → ℕ → Answer
 stored t m n at count = accepted t m (take count (drop at (fileOf (t .files) n)))
 
 unfoldable pub storedIso : Tag → ℕ → ℕ → ℕ → Answer
-storedIso t n at count = given (afterwards t) 0x9000 (take count (drop at (fileOf (t .files) n)))
+storedIso t n at count = given (afterwards t) isoNormal (take count (drop at (fileOf (t .files) n)))
 
 -- the files with other bytes from an offset of file n on
 unfoldable pub withBytes : Files → ℕ → ℕ → List ℕ → Files

@@ -164,20 +164,20 @@ and-false : (a b : Bool) → b ≡ false → and a b ≡ false
 and-false true b e = e
 and-false false b e = refl
 
-no-uid : (h : Head) → h .meta ≤ 4 → hasUid h ≡ false
+no-uid : (h : Head) → h .«sdm_meta_read» ≤ 4 → hasUid h ≡ false
 unfolding hasUid
-no-uid h l = and-false (h .uid) (eqb (h .meta) 14) (ne-eqb (h .meta) 14 (λ e. omega arith))
+no-uid h l = and-false (h .uid) (eqb (h .«sdm_meta_read») 14) (ne-eqb (h .«sdm_meta_read») 14 (λ e. omega arith))
 
-no-picc : (h : Head) → 4 < h .meta → hasPicc h ≡ false
+no-picc : (h : Head) → 4 < h .«sdm_meta_read» → hasPicc h ≡ false
 unfolding hasPicc
-no-picc h l = and-false (h .sdm) (leb (h .meta) 4) (lt-leb (h .meta) 4 l)
+no-picc h l = and-false (h .sdm) (leb (h .«sdm_meta_read») 4) (lt-leb (h .«sdm_meta_read») 4 l)
 
 -- UIDOffset and PICCDataOffset are not both there
 not-both : (h : Head) → pick (hasUid h) 3 0 + pick (hasPicc h) 3 0 ≤ 3
 not-both h =
-    ⊎-elim (λ (l : h .meta ≤ 4). rw (no-uid h l) (omega (arith, small (hasPicc h))))
-    (λ (l : 4 < h .meta). rw (no-picc h l) (omega (arith, small (hasUid h))))
-    (le-or-lt (h .meta) 4)
+    ⊎-elim (λ (l : h .«sdm_meta_read» ≤ 4). rw (no-uid h l) (omega (arith, small (hasPicc h))))
+    (λ (l : 4 < h .«sdm_meta_read»). rw (no-picc h l) (omega (arith, small (hasUid h))))
+    (le-or-lt (h .«sdm_meta_read») 4)
 
 size-bounds : (h : Head) → (3 ≤ sizeOf h) × (sizeOf h ≤ 27)
 unfolding sizeOf ends present

@@ -124,16 +124,16 @@ front-of a b c o low high t =
       mode = modeOf a;
       read = c / 16;
       write = c % 16;
-      both = b / 16;
+      «read_write» = b / 16;
       change = b % 16;
       sdm = t;
       uid = bit 7 o;
       counter = bit 6 o;
       limit = bit 5 o;
       enc = bit 4 o;
-      meta = high / 16;
-      file = high % 16;
-      ret = low % 16;
+      «sdm_meta_read» = high / 16;
+      «sdm_file_read» = high % 16;
+      «sdm_ctr_ret» = low % 16;
     }
 
 head-front : (s : List ℕ) → headOf s ≡ front-of (byteAt s 0) (byteAt s 1) (byteAt s 2) (sdmByte s 3) (sdmByte s 4) (sdmByte s 5) (sdmOn s)
@@ -172,11 +172,11 @@ head-on h w o m r q =
       mode-read (h .mode) (h .sdm) m,
       high (h .read) (h .write) (f .write),
       low-half (h .read) (h .write) (f .write),
-      high (h .both) (h .change) (f .change),
-      low-half (h .both) (h .change) (f .change),
-      high (h .meta) (h .file) (g .file),
-      low-half (h .meta) (h .file) (g .file),
-      ret-read (h .ret) (g .ret),
+      high (h .«read_write») (h .change) (f .change),
+      low-half (h .«read_write») (h .change) (f .change),
+      high (h .«sdm_meta_read») (h .«sdm_file_read») (g .file),
+      low-half (h .«sdm_meta_read») (h .«sdm_file_read») (g .file),
+      ret-read (h .«sdm_ctr_ret») (g .ret),
       packed-7 (h .uid) (h .counter) (h .limit) (h .enc),
       packed-6 (h .uid) (h .counter) (h .limit) (h .enc),
       packed-5 (h .uid) (h .counter) (h .limit) (h .enc),
@@ -191,18 +191,18 @@ module _ (m r w b c x f q : ℕ) (t u k l e : Bool) where
         mode = m;
         read = r;
         write = w;
-        both = b;
+        «read_write» = b;
         change = c;
         sdm = t;
         uid = false;
         counter = false;
         limit = false;
         enc = false;
-        meta = 0;
-        file = 0;
-        ret = 0;
+        «sdm_meta_read» = 0;
+        «sdm_file_read» = 0;
+        «sdm_ctr_ret» = 0;
       })
-      (record { mode = m; read = r; write = w; both = b; change = c; sdm = t; uid = u; counter = k; limit = l; enc = e; meta = x; file = f; ret = q })
+      (record { mode = m; read = r; write = w; «read_write» = b; change = c; sdm = t; uid = u; counter = k; limit = l; enc = e; «sdm_meta_read» = x; «sdm_file_read» = f; «sdm_ctr_ret» = q })
   without pu pk pl pe px pf pq = rw (pu, pk, pl, pe, px, pf, pq) refl
 
 pub record Off (h : Head) : Type 0 where
@@ -210,20 +210,20 @@ pub record Off (h : Head) : Type 0 where
   pub counter : h .counter ≡ false
   pub limit : h .limit ≡ false
   pub enc : h .enc ≡ false
-  pub meta : h .meta ≡ 0
-  pub file : h .file ≡ 0
-  pub ret : h .ret ≡ 0
+  pub meta : h .«sdm_meta_read» ≡ 0
+  pub file : h .«sdm_file_read» ≡ 0
+  pub ret : h .«sdm_ctr_ret» ≡ 0
 
 pub off-parts : (h : Head) → sdmAbsent h ≡ true → Off h
 unfolding sdmAbsent
 off-parts h e =
     let n : Bool = and (not (h .uid)) (and (not (h .counter)) (and (not (h .limit)) (not (h .enc)))) in
-    let z : Bool = and (eqb (h .meta) 0) (and (eqb (h .file) 0) (eqb (h .ret) 0)) in
+    let z : Bool = and (eqb (h .«sdm_meta_read») 0) (and (eqb (h .«sdm_file_read») 0) (eqb (h .«sdm_ctr_ret») 0)) in
     let a : Both (not (h .uid)) (and (not (h .counter)) (and (not (h .limit)) (not (h .enc)))) = both (and-left n z e) in
     let b : Both (not (h .counter)) (and (not (h .limit)) (not (h .enc))) = both (a .right) in
     let c : Both (not (h .limit)) (not (h .enc)) = both (b .right) in
-    let x : Both (eqb (h .meta) 0) (and (eqb (h .file) 0) (eqb (h .ret) 0)) = both (and-right n z e) in
-    let y : Both (eqb (h .file) 0) (eqb (h .ret) 0) = both (x .right) in
+    let x : Both (eqb (h .«sdm_meta_read») 0) (and (eqb (h .«sdm_file_read») 0) (eqb (h .«sdm_ctr_ret») 0)) = both (and-right n z e) in
+    let y : Both (eqb (h .«sdm_file_read») 0) (eqb (h .«sdm_ctr_ret») 0) = both (x .right) in
     record {
       uid = not-true _ (a .left);
       counter = not-true _ (b .left);
@@ -258,20 +258,20 @@ head-off h o m r a =
       mode-read (h .mode) (h .sdm) m,
       high (h .read) (h .write) (f .write),
       low-half (h .read) (h .write) (f .write),
-      high (h .both) (h .change) (f .change),
-      low-half (h .both) (h .change) (f .change),
+      high (h .«read_write») (h .change) (f .change),
+      low-half (h .«read_write») (h .change) (f .change),
     )
-    (without (h .mode) (h .read) (h .write) (h .both) (h .change) (h .meta) (h .file) (h .ret)
+    (without (h .mode) (h .read) (h .write) (h .«read_write») (h .change) (h .«sdm_meta_read») (h .«sdm_file_read») (h .«sdm_ctr_ret»)
     (h .sdm) (h .uid) (h .counter) (h .limit) (h .enc) (a .uid) (a .counter) (a .limit) (a .enc) (a .meta) (a .file) (a .ret))
 
 off-present : (h : Head) → h .sdm ≡ false → Off h → Absent h
 unfolding hasUid hasCounter hasPicc hasMac hasEnc
 off-present h o a =
     record {
-      uid = ap (λ t. and t (eqb (h .meta) 14)) (a .uid);
-      counter = ap (λ t. and t (eqb (h .meta) 14)) (a .counter);
-      picc = ap (λ t. and t (leb (h .meta) 4)) o;
-      mac = ap (λ t. and t (not (eqb (h .file) 15))) o;
+      uid = ap (λ t. and t (eqb (h .«sdm_meta_read») 14)) (a .uid);
+      counter = ap (λ t. and t (eqb (h .«sdm_meta_read») 14)) (a .counter);
+      picc = ap (λ t. and t (leb (h .«sdm_meta_read») 4)) o;
+      mac = ap (λ t. and t (not (eqb (h .«sdm_file_read») 15))) o;
       enc = ap (λ t. and t (hasMac h)) (a .enc);
       limit = a .limit;
     }

@@ -1,9 +1,10 @@
 // Settings strings normalised.
 ghost use mathlib.Core.Path.{_≡_};
-ghost use lib.Dec.{ltb};
+ghost use lib.Dec.{eqb, leb, ltb};
 ghost use lib.ListN.{set};
-ghost use Rattle.base.specs.Decide.{pick};
-ghost use Rattle.fields.specs.Normal.{plainMode, freeBits};
+ghost use Rattle.base.specs.Decide.{pick, or};
+ghost use Rattle.base.specs.Bytes.{same};
+ghost use Rattle.fields.specs.Normal.{plainMode, freeBits, normal};
 ghost use Rattle.settings.specs.declared.Verdict.the-variants.{Good};
 ghost use Rattle.settings.specs.Answers.{judged};
 ghost use Rattle.normalising.specs.Answers.{normalised, normalRoom};
@@ -61,6 +62,29 @@ fn lay_normal(s: &[u8], room: &mut [u8]) -> Normalised
         return Normalised::Normal(n);
     }
     Normalised::RoomTooSmall
+}
+
+// Whether a byte at an index, if there is one, is already the one that the normal form has there.
+fn settled(n: usize, i: usize, b: u8, v: u8) -> bool
+    ensures { λ r. ⌜ r ≡ or (leb n i) (eqb b v) ⌝ }
+{
+    if n <= i {
+        return true;
+    }
+    b == v
+}
+
+// Whether a string is its own normal form.
+pub fn is_normal(s: &[u8]) -> bool
+    ensures { λ r. ⌜ r ≡ same (now (s .entry)) (normal (now (s .entry))) ⌝ }
+{
+    let n = s.len();
+    let a = base::at(s, 0);
+    let b = base::at(s, 4);
+    if settled(n, 0, a, plain_mode(a)) {
+        return settled(n, 4, b, free_bits(fields::sdm_on(s), b));
+    }
+    false
 }
 
 // The normal string at the front of the room, with its length. A refusal leaves the room.

@@ -7,6 +7,7 @@ use lib.Dec.{eqb, leb, ltb}
 use lib.ListN.{length, take, drop}
 use Rattle.base.specs.Decide.{pick, and, or}
 use Rattle.base.specs.Bytes.{over}
+use Rattle.base.specs.Status.{operationOk, integrityError, lengthError}
 use Rattle.padding.specs.Padding.{blocks}
 use Rattle.messaging.specs.Protect.{commandIv, macLength, sent, signed, Opening, plain, wrongLength, wrongMac, wrongPadding, content, macRight}
 use Rattle.messaging.specs.declared.Session.{Session}
@@ -71,9 +72,9 @@ pub record Opens (x : List ℕ) (o : Opening) (old : List ℕ) (r : Opened) (new
 -- 01's status for each answer; the two that are refused by house rules alone have none, and the house's numbers 1 and 2
 -- (proofs/Answers.antt: opens-status)
 unfoldable pub openedStatus : Opened → ℕ
-openedStatus (Data n) = 0x9100
-openedStatus WrongLength = 0x917E
-openedStatus WrongMac = 0x911E
-openedStatus WrongPadding = 0x911E
+openedStatus (Data n) = operationOk
+openedStatus WrongLength = lengthError
+openedStatus WrongMac = integrityError
+openedStatus WrongPadding = integrityError
 openedStatus TooLong = 1
 openedStatus NoRoom = 2

@@ -1,34 +1,17 @@
--- Step 2: a right form has at most 261 bytes, so at most 255 of data; the data of a command.
-use mathlib.Core.Path.{_≡_, refl, ap}
-use mathlib.Core.Bool.{Bool, true, false}
+-- Step 2: the data of a command, and how much it may be.
+use mathlib.Core.Path.{_≡_, ap}
+use mathlib.Core.Bool.{true, false}
 use mathlib.Core.List.{List, []}
-use mathlib.Core.Logic.{_⊎_, inl, inr, ⊎-elim}
+use mathlib.Core.Logic.{⊎-elim}
 use Prim.Native.Nat.{ℕ, _+_, _-_, _≤_, _<_}
 use native.Mathlib.Omega.{arith}
-use borrow.Author.Tests.{eqb-true}
+use borrow.Author.Tests.{le-leb, lt-leb, ne-eqb, eqb-true}
 use lib.Dec.{eqb, leb}
-use lib.ListN.{length, take, drop, length-take, length-drop}
-use Rattle.base.specs.Decide.{and, or}
+use lib.ListN.{length, take, drop}
+use Rattle.base.specs.Decide.{or}
 use Rattle.base.specs.Bytes.{byteAt}
-use Rattle.base.proofs.Bytes.{and-right}
-use Rattle.order.specs.Order.{formRight, commandData}
-
-or-cases : (a b : Bool) → or a b ≡ true → (a ≡ true) ⊎ (b ≡ true)
-or-cases true b e = inl refl
-or-cases false b e = inr e
-
-abbrev lengthRight : List ℕ → Bool
-lengthRight c = or (eqb (length c) 5) (and (leb 1 (byteAt c 4)) (eqb (length c) (6 + byteAt c 4)))
-
-pub form-short : (c : List ℕ) → formRight c ≡ true → byteAt c 4 < 256 → length c ≤ 261
-unfolding formRight
-form-short c e h =
-    let last = eqb (byteAt c (length c - 1)) 0 in
-    let e′ = and-right last (lengthRight c) (and-right (leb 5 (length c)) (and last (lengthRight c)) e) in
-    ⊎-elim
-    (λ p. omega (arith, eqb-true (length c) 5 p))
-    (λ q. omega (arith, eqb-true (length c) (6 + byteAt c 4) (and-right (leb 1 (byteAt c 4)) (eqb (length c) (6 + byteAt c 4)) q)))
-    (or-cases (eqb (length c) 5) (and (leb 1 (byteAt c 4)) (eqb (length c) (6 + byteAt c 4))) e′)
+use Rattle.base.proofs.Bytes.{le-or-lt, and-right}
+use Rattle.order.specs.Order.{commandData, isoForm, lcOf}
 
 pub part-none : (c : List ℕ) → length c ≤ 5 → [] ≡ commandData c
 unfolding commandData
@@ -38,5 +21,27 @@ pub part-some : (c : List ℕ) → take (length c - 1 - 5) (drop 5 c) ≡ comman
 unfolding commandData
 part-some c = let e : length c - 1 - 5 ≡ length c - 6 = omega arith in ap (λ k. take k (drop 5 c)) e
 
-pub part-short : (c : List ℕ) → length c ≤ 261 → length (take (length c - 1 - 5) (drop 5 c)) ≤ 255
-part-short c h = simp (length-take, length-drop) (omega arith)
+-- Lc is a byte
+pub lc-small : (c : List ℕ) → byteAt c 4 < 256 → lcOf c ≤ 256
+unfolding lcOf
+lc-small c h =
+    ⊎-elim (λ k. rw (le-leb (length c) 5 k) (omega arith)) (λ k. rw (lt-leb (length c) 5 k) (omega arith))
+    (le-or-lt (length c) 5)
+
+-- n bytes are as many as Lc says, without Le or with it
+long-enough : (n b : ℕ) → or (eqb n (5 + b)) (eqb n (6 + b)) ≡ true → 5 + b ≤ n
+long-enough n b e = ⊎-elim (λ k. k) (λ k. absurd (too-short k)) (le-or-lt (5 + b) n)
+  where
+    too-short : n < 5 + b → ⊥
+    too-short k =
+        let w : false ≡ true = rw (ne-eqb n (5 + b) (λ p. omega arith), ne-eqb n (6 + b) (λ p. omega arith)) at e in
+        let q : _≡_ {A = ℕ} 0 1 = eqb-true 0 1 w in
+        omega arith
+
+-- a right form of CLA 00 has as much data as it says
+pub data-whole : (c : List ℕ) → isoForm c ≡ true → 1 ≤ lcOf c → 5 + lcOf c ≤ length c
+unfolding isoForm lcOf
+data-whole c f =
+    ⊎-elim (λ h. rw (le-leb (length c) 5 h) (λ k. absurd (omega arith)))
+    (λ h. rw (lt-leb (length c) 5 h) (λ k. long-enough (length c) (byteAt c 4) (and-right (leb 1 (byteAt c 4)) _ (rw (lt-leb (length c) 5 h) at f))))
+    (le-or-lt (length c) 5)

@@ -1,2 +1,4 @@
 pub mod Keys
 pub mod Forms
+pub mod Names
+pub mod Placed

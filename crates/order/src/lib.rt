@@ -1,135 +1,58 @@
-// The order of checks of wrapped commands (CLA 90), steps 2 to 5, by their bytes.
-ghost use mathlib.Core.Path.{_≡_};
-ghost use Rattle.base.specs.Decide.{oneOf};
-ghost use Rattle.settings.specs.Filing.{fileStatus};
-ghost use Rattle.order.specs.Order.{formRight, wrappedCommands, headerLength, hasData, keyStatus, byteStatus, frontStatus, orderStatus};
+// The fourteen commands, and the order of their checks, steps 1 to 5 (01): a command's bytes become a value, once, or the
+// status that refuses them.
 
-// 5 bytes, or 6 + Lc with Lc 1 to 255, and the last byte 00.
-pub fn form_right(c: &[u8]) -> bool
-    ensures { λ r. ⌜ r ≡ formRight (now (c .entry)) ⌝ }
-{
-    let n = c.len();
-    if n < 5 {
-        return false;
-    }
-    if base::at(c, n - 1) == 0 {
-        if n == 5 {
-            return true;
-        }
-        let lc = base::at(c, 4) as usize;
-        if lc == 0 {
-            return false;
-        }
-        return n == 6 + lc;
-    }
-    false
+mod fronts;
+mod iso;
+mod naming;
+mod ordering;
+
+pub use fronts::key_status;
+pub use ordering::command_in;
+
+// The commands.
+pub enum Name {
+    AuthenticateFirst,
+    AuthenticateNonFirst,
+    PartTwo,
+    ChangeKey,
+    GetKeyVersion,
+    GetCardUid,
+    GetFileSettings,
+    ChangeFileSettings,
+    GetFileCounters,
+    ReadData,
+    WriteData,
+    IsoSelectFile,
+    IsoReadBinary,
+    IsoUpdateBinary,
 }
 
-// Whether a command is one of those of CLA 90.
-fn known(ins: u8) -> bool
-    ensures { λ r. ⌜ r ≡ oneOf ins wrappedCommands ⌝ }
-{
-    match ins {
-        0x51 | 0x5F | 0x64 | 0x71 | 0x77 | 0xAF | 0xC4 | 0xF5 => true,
-        0x8D | 0xAD | 0xF6 => true,
-        _ => false,
-    }
+// The command of a class and an INS.
+pub enum Named {
+    Known(Name),
+    Unknown,
 }
 
-// Steps 3 and 4: 0, or the status.
-pub fn order_status(ins: u8, p1: u8, p2: u8, pending: bool) -> u16
-    ensures { λ r. ⌜ r ≡ orderStatus ins p1 p2 pending ⌝ }
-{
-    if known(ins) {
-        if p1 != 0 {
-            return 0x919E;
-        }
-        if p2 != 0 {
-            return 0x919E;
-        }
-        if pending {
-            if ins == 0xAF {
-                return 0;
-            }
-            return 0x91CA;
-        }
-        if ins == 0xAF {
-            return 0x911C;
-        }
-        return 0;
-    }
-    0x911C
+// A command: its name, class and INS; how long its header is and whether it has a data part; the key or the file that it is
+// about, P1 and P2, offset and length or Le, 0 where it has none; and where its data lies among its bytes.
+pub struct Command {
+    pub name: Name,
+    pub class: u8,
+    pub ins: u8,
+    pub header: usize,
+    pub parted: bool,
+    pub key: u8,
+    pub file: u8,
+    pub p1: u8,
+    pub p2: u8,
+    pub offset: usize,
+    pub count: usize,
+    pub start: usize,
+    pub end: usize,
 }
 
-// How many bytes a header has.
-pub fn header_length(ins: u8) -> usize
-    ensures { λ r. ⌜ r ≡ headerLength ins ⌝ }
-{
-    match ins {
-        0x51 => 0,
-        0xAD | 0x8D => 7,
-        _ => 1,
-    }
-}
-
-// Whether a command has a data part.
-pub fn has_data(ins: u8) -> bool
-    ensures { λ r. ⌜ r ≡ hasData ins ⌝ }
-{
-    match ins {
-        0xC4 | 0x5F | 0x8D => true,
-        _ => false,
-    }
-}
-
-// 0, or the status of a file byte: over 31 919E, not 1 to 3 91F0.
-fn file_status(n: u8) -> u16
-    ensures { λ r. ⌜ r ≡ fileStatus n ⌝ }
-{
-    if 31 < n {
-        return 0x919E;
-    }
-    if n == 0 {
-        return 0x91F0;
-    }
-    if 3 < n {
-        return 0x91F0;
-    }
-    0
-}
-
-// 0, or the status of a key byte: over 63 919E, over 4 9140.
-pub fn key_status(k: u8) -> u16
-    ensures { λ r. ⌜ r ≡ keyStatus k ⌝ }
-{
-    if 63 < k {
-        return 0x919E;
-    }
-    if 4 < k {
-        return 0x9140;
-    }
-    0
-}
-
-fn byte_status(ins: u8, b: u8) -> u16
-    ensures { λ r. ⌜ r ≡ byteStatus ins b ⌝ }
-{
-    match ins {
-        0x51 => 0,
-        0x64 | 0xC4 => key_status(b),
-        _ => file_status(b),
-    }
-}
-
-// Step 5: 0, or the status.
-pub fn front_status(ins: u8, x: &[u8], application: bool) -> u16
-    ensures { λ r. ⌜ r ≡ frontStatus ins (now (x .entry)) application ⌝ }
-{
-    if x.len() < header_length(ins) {
-        return 0x917E;
-    }
-    if application {
-        return byte_status(ins, base::at(x, 0));
-    }
-    0x919D
+// The command, or the status that refuses it.
+pub enum Ordered {
+    Is(Command),
+    Refused(u16),
 }

@@ -7,6 +7,7 @@ use lib.Dec.{eqb, leb}
 use lib.ListN.{length, take, replicate}
 use Rattle.base.specs.Decide.{pick, and, or}
 use Rattle.base.specs.Bytes.{byteAt, same, over}
+use Rattle.base.specs.Status.{operationOk, integrityError}
 use Rattle.padding.specs.declared.Unpadded.{Unpadded}
 use Rattle.padding.specs.declared.Unpadded.the-variants.{Text, Wrong}
 use Rattle.padding.specs.declared.Padded.{Padded}
@@ -44,8 +45,8 @@ isPadded s = paddedBelow (length s) s
 
 -- 01's status for each answer: wrong padding is 911E
 unfoldable pub unpaddedStatus : Unpadded → ℕ
-unpaddedStatus (Text n) = 0x9100
-unpaddedStatus Wrong = 0x911E
+unpaddedStatus (Text n) = operationOk
+unpaddedStatus Wrong = integrityError
 
 -- the text that stands at the front of a room, padded there; a room that is too small stays as it is
 unfoldable pub padding : List ℕ → ℕ → Padded

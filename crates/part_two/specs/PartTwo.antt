@@ -4,6 +4,7 @@ use mathlib.Core.List.{List}
 use Prim.Native.Nat.{ℕ}
 use lib.ListN.{take, drop}
 use Rattle.base.specs.Decide.{pick}
+use Rattle.base.specs.Status.{operationOk}
 use Rattle.authentication.specs.declared.Proof.{Proof}
 use Rattle.authentication.specs.declared.Proof.the-variants.{Right, NotThirtyTwo, WrongRndB}
 use Rattle.authentication.specs.Authentication.{deciphered, proofOf, proofStatus, firstReply, nextReply}
@@ -23,12 +24,12 @@ sessionFrom p kx a ti counter =
 unfoldable pub enteredFirst : Tag → List ℕ → List ℕ → List ℕ → Answer
 enteredFirst t kx a random =
     let ti = drop 16 random in
-    given (talking t (sessionFrom (t .pending) kx a ti 0) noPending) 0x9100 (firstReply kx ti a (t .pending .cap))
+    given (talking t (sessionFrom (t .pending) kx a ti 0) noPending) operationOk (firstReply kx ti a (t .pending .cap))
 
 -- part two of 77 accepted: RndA'; TI and CmdCtr are the kept ones
 unfoldable pub enteredNext : Tag → List ℕ → List ℕ → Answer
 enteredNext t kx a =
-    given (talking t (sessionFrom (t .pending) kx a (t .pending .ti) (t .pending .counter)) noPending) 0x9100 (nextReply kx a)
+    given (talking t (sessionFrom (t .pending) kx a (t .pending .ti) (t .pending .counter)) noPending) operationOk (nextReply kx a)
 
 unfoldable pub entered : Tag → List ℕ → List ℕ → List ℕ → Answer
 entered t kx a random = pick (t .pending .first) (enteredFirst t kx a random) (enteredNext t kx a)

@@ -45,7 +45,7 @@ fn enter_first(tag: Tag, kx: [u8; 16], a: [u8; 16], random: [u8; 20]) -> Done
     let ti = ti_of(random);
     let e = authentication::first_reply(kx, ti, a, cap);
     let l = session(p, kx, a, ti, 0);
-    auth::reply(auth::talking(tag, l, state::no_pending()), 0x9100, &e)
+    replies::give_text(state::talking(tag, l, state::no_pending()), 0x9100, &e)
 }
 
 // Part two of 77 accepted: RndA'; CmdCtr is kept.
@@ -56,7 +56,7 @@ fn enter_next(tag: Tag, kx: [u8; 16], a: [u8; 16]) -> Done
     let ti = p.ti;
     let e = authentication::next_reply(kx, a);
     let l = session(p, kx, a, ti, p.counter);
-    auth::reply(auth::talking(tag, l, state::no_pending()), 0x9100, &e)
+    replies::give_text(state::talking(tag, l, state::no_pending()), 0x9100, &e)
 }
 
 // Part two with the right RndB'.

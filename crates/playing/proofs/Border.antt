@@ -13,7 +13,8 @@ use Rattle.replies.specs.Answer.{Answer}
 use Rattle.tag.specs.declared.Outcome.{Outcome}
 use Rattle.tag.specs.declared.Outcome.the-variants.{Replied, SmallRoom, WrongRandom, Unsound}
 use Rattle.tag.specs.declared.Called.{Called}
-use Rattle.tag.specs.Call.{answered, replied, unanswered, outcomeOf, byOutcome, Calls}
+use Rattle.tag.specs.Way.{answered}
+use Rattle.tag.specs.Call.{replied, unanswered, outcomeOf, byOutcome, Calls}
 use Rattle.playing.specs.Answers.{callNumber, callImage, isReply, Answers, stateIn, Plays}
 
 -- ---- a call

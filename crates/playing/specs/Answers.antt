@@ -13,7 +13,8 @@ use Rattle.making.specs.Making.{wrongImage}
 use Rattle.replies.specs.Answer.{Answer}
 use Rattle.tag.specs.declared.Outcome.{Outcome}
 use Rattle.tag.specs.declared.Outcome.the-variants.{Replied, SmallRoom, WrongRandom, Unsound}
-use Rattle.tag.specs.Call.{answered, replyOf, outcomeOf, roomBy, refusalNumber}
+use Rattle.tag.specs.Way.{answered}
+use Rattle.tag.specs.Call.{replyOf, outcomeOf, roomBy, refusalNumber}
 
 -- ---- a call: the reply's length, or 1000 and the number of refusals 1 to 3
 abbrev pub callNumber : Answer → Outcome → ℕ

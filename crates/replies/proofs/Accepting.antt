@@ -18,9 +18,9 @@ use Rattle.closing.specs.declared.Closed.{Closed}
 use Rattle.closing.specs.declared.Closed.the-variants.{Reply, Over, Small}
 use Rattle.closing.proofs.Closing.{short}
 use Rattle.both_ends.proofs.Messages.{closed-length}
-use Rattle.state.specs.State.{talking}
+use Rattle.state.specs.State.{talking, sessionOf}
 use Rattle.state.specs.declared.Tag.{Tag}
-use Rattle.replies.specs.Answer.{given, refusal, raised, sessionOf, afterwards, accepted, answerOf, Gives}
+use Rattle.replies.specs.Answer.{given, refusal, raised, afterwards, accepted, answerOf, Gives}
 
 -- ---- what closing's answer says of its two questions
 record Replied (o : Bool) (r l : ℕ) (now new : List ℕ) : Type 0 where

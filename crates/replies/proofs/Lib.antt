@@ -1,3 +1,4 @@
 pub mod Accepting
 pub mod Counting
 pub mod Equal
+pub mod Given

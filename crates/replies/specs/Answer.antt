@@ -1,18 +1,18 @@
 -- What a command is answered: status, data, and the next state.
-use mathlib.Core.Bool.{Bool}
 use mathlib.Core.List.{List, []}
 use mathlib.Core.Path.{_≡_}
-use Prim.Native.Nat.{ℕ, _+_, _≤_}
-use lib.Dec.{eqb, ltb}
-use lib.ListN.{length, take}
-use Rattle.base.specs.Decide.{pick, and}
+use Prim.Native.Nat.{ℕ, min, _+_, _≤_}
+use lib.Dec.{ltb}
+use lib.ListN.{length, take, replicate}
+use Rattle.base.specs.Decide.{pick}
+use Rattle.base.specs.Bytes.{laid}
+use Rattle.base.specs.Status.{operationOk}
 use Rattle.messaging.specs.declared.Mode.{Mode}
-use Rattle.messaging.specs.declared.Session.{Session}
 use Rattle.closing.specs.declared.Closed.the-variants.{Over}
 use Rattle.closing.specs.Reply.{closed, overlong, closedStatus}
 use Rattle.state.specs.declared.Live.{Live}
 use Rattle.state.specs.declared.Tag.{Tag}
-use Rattle.state.specs.State.{talking, endedOf}
+use Rattle.state.specs.State.{sessionOf, talking, endedOf}
 use Rattle.replies.specs.declared.Done.{Done}
 
 pub record Answer : Type 0 where
@@ -27,10 +27,6 @@ given t s d = record { status = s; text = d; tag = t }
 unfoldable pub refusal : Tag → ℕ → Answer
 refusal t s = given (endedOf t) s []
 
--- in session with CmdCtr 65,535
-abbrev pub usedUp : Bool → ℕ → Bool
-usedUp on counter = and on (eqb counter 65535)
-
 -- CmdCtr rises by one in session. 01, step 7, sees to it that it can: no accepted command gets here with 65,535, which stays
 unfoldable pub raised : Live → Live
 raised l =
@@ -43,9 +39,6 @@ raised l =
       counter = pick (l .on) (pick (ltb (l .counter) 65535) (l .counter + 1) (l .counter)) (l .counter);
     }
 
-unfoldable pub sessionOf : Live → Session
-sessionOf l = record { enc = l .enc; mac = l .mac; ti = l .ti; counter = l .counter }
-
 -- the tag after an accepted command that is no tap: CmdCtr has risen, and no tap runs
 unfoldable pub afterwards : Tag → Tag
 afterwards t = talking t (raised (t .live)) (t .pending)
@@ -54,7 +47,11 @@ afterwards t = talking t (raised (t .live)) (t .pending)
 unfoldable pub accepted : Tag → Mode → List ℕ → Answer
 accepted t m d =
     pick (overlong m (length d)) (refusal t (closedStatus Over))
-    (given (afterwards t) 0x9100 (closed (sessionOf (raised (t .live))) m 0 d))
+    (given (afterwards t) operationOk (closed (sessionOf (raised (t .live))) m 0 d))
+
+-- of the code, not the paper: a text given out of a room of 258 zeros; one of at most 256 bytes is given whole
+unfoldable pub roomGiven : Tag → ℕ → List ℕ → Answer
+roomGiven t status e = given t status (take (min (length e) 256) (laid e 0 (replicate 258 0)))
 
 -- of the code, not the paper: what its answer says, data in a buffer of 258 bytes, of which at most 256 count
 unfoldable pub answerOf : Done → Answer

@@ -2,10 +2,9 @@
 ghost use mathlib.Core.Path.{_≡_};
 ghost use Prim.Native.Nat.{min};
 ghost use lib.ListN.{take};
-ghost use Rattle.replies.specs.Answer.{Gives, refusal, given, accepted, sessionOf, usedUp, raised, afterwards};
+ghost use Rattle.replies.specs.Answer.{Gives, refusal, given, roomGiven, accepted, raised, afterwards};
 use closing::Closed;
 use messaging::Mode;
-use messaging::Session;
 use state::Live;
 use state::Tag;
 
@@ -57,14 +56,13 @@ pub fn give(tag: Tag, status: u16, bytes: [u8; 258], n: usize) -> Done
     }
 }
 
-// In session with CmdCtr used up.
-pub fn used_up(on: bool, counter: u16) -> bool
-    ensures { λ r. ⌜ r ≡ usedUp on counter ⌝ }
+// A text as it is, up to 256 bytes of it, under a status.
+pub fn give_text(tag: Tag, status: u16, e: &[u8]) -> Done
+    ensures { λ r. ⌜ Gives (roomGiven tag status (now (e .entry))) r ⌝ }
 {
-    if on {
-        return counter == 65535;
-    }
-    false
+    let mut bytes = [0u8; 258];
+    base::put(e, &mut bytes, 0);
+    give(tag, status, bytes, e.len())
 }
 
 // CmdCtr rises by one in session.
@@ -78,21 +76,6 @@ fn raise(l: Live) -> Live
         }
     }
     next
-}
-
-// What protects the messages of a session.
-pub fn session_of(l: Live) -> Session
-    ensures { λ r. ⌜ r ≡ sessionOf l ⌝ }
-{
-    let enc = l.enc;
-    let mac = l.mac;
-    let ti = l.ti;
-    Session {
-        enc,
-        mac,
-        ti,
-        counter: l.counter,
-    }
 }
 
 // The tag after an accepted command: CmdCtr is raised and no tap runs.
@@ -114,7 +97,7 @@ pub fn accept(tag: Tag, m: Mode, bytes: [u8; 258], n: usize) -> Done
     let t = after(tag);
     let mut b = bytes;
     let k = smaller(n, 256);
-    let c = closing::close(session_of(t.live), m, 0, &mut b, k);
+    let c = closing::close(state::session_of(t.live), m, 0, &mut b, k);
     match c {
         Closed::Reply(length) => Done {
             status: 0x9100,

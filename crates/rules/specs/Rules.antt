@@ -18,8 +18,9 @@ use Rattle.rules.specs.declared.Check.the-variants.{UidInside, CounterIn
 use Rattle.rules.specs.declared.Check.the-variants.{Shared, MacInput, EncBetween}
 use Rattle.rules.specs.declared.Finding.{Finding}
 use Rattle.rules.specs.declared.Finding.the-variants.{Kept, Missing, Wrong}
-use Rattle.fields.specs.Fields.{sdmOn, headOf, hasMac, hasEnc, present, listed, placesIn, sizeOf}
-use Rattle.spans.specs.Spans.{uidSpan, counterSpan, piccSpan, encSpan, macSpan, spansOf, inside, allApart}
+use Rattle.rules.specs.declared.Examined.{Examined}
+use Rattle.fields.specs.Fields.{sdmOn, headOf, readOf, hasMac, hasEnc, present, listed, placesIn, sizeOf}
+use Rattle.spans.specs.Spans.{uidSpan, counterSpan, piccSpan, encSpan, macSpan, spansOf, readingOf, inside, allApart}
 
 -- A rule: a part that must be there whole, or a test that must hold
 pub record Rule : Type 0 where
@@ -50,7 +51,7 @@ unfoldable pub condition : ℕ → Bool
 condition c = or (leb c 4) (or (eqb c 14) (eqb c 15))
 
 unfoldable pub rights : Head → Bool
-rights h = and (condition (h .read)) (and (condition (h .write)) (and (condition (h .both)) (condition (h .change))))
+rights h = and (condition (h .read)) (and (condition (h .write)) (and (condition (h .«read_write»)) (condition (h .change))))
 
 -- SDMOptions bit 0 one, 3 to 1 zero
 unfoldable pub sdmOptionsBits : ℕ → Bool
@@ -58,19 +59,19 @@ sdmOptionsBits b = eqb (b % 16) 1
 
 -- the same conditions in the SDM rights; SDMFileRead not E
 unfoldable pub sdmRights : Head → Bool
-sdmRights h = and (condition (h .meta)) (and (and (condition (h .file)) (not (eqb (h .file) 14))) (condition (h .ret)))
+sdmRights h = and (condition (h .«sdm_meta_read»)) (and (and (condition (h .«sdm_file_read»)) (not (eqb (h .«sdm_file_read») 14))) (condition (h .«sdm_ctr_ret»)))
 
 -- SDMMetaRead 0 to 4 needs bit 7 or 6
 unfoldable pub metaMirrors : Head → Bool
-metaMirrors h = or (leb 5 (h .meta)) (or (h .uid) (h .counter))
+metaMirrors h = or (leb 5 (h .«sdm_meta_read»)) (or (h .uid) (h .counter))
 
 -- SDMMetaRead F needs both zero
 unfoldable pub metaOff : Head → Bool
-metaOff h = or (not (eqb (h .meta) 15)) (and (not (h .uid)) (not (h .counter)))
+metaOff h = or (not (eqb (h .«sdm_meta_read») 15)) (and (not (h .uid)) (not (h .counter)))
 
 -- bit 4 needs SDMFileRead, bits 7 and 6
 unfoldable pub encNeeds : Head → Bool
-encNeeds h = or (not (h .enc)) (and (not (eqb (h .file) 15)) (and (h .uid) (h .counter)))
+encNeeds h = or (not (h .enc)) (and (not (eqb (h .«sdm_file_read») 15)) (and (h .uid) (h .counter)))
 
 -- SDMENCLength is a multiple of 32, at least 32
 unfoldable pub encSize : Settings → Bool
@@ -127,6 +128,10 @@ rules n s =
     ∷ right Rights (rights (headOf s))
     ∷ restRules s (headOf s)
 
+-- the first that is broken, and what the string means, good or not
+unfoldable pub examined : ℕ → List ℕ → Examined
+examined n s = record { finding = found (rules n s); reading = readingOf (readOf s) }
+
 -- ---- the same rules of a record
 
 -- a present field has three bytes, an absent one is 0
@@ -153,7 +158,7 @@ sdmMeets r =
 unfoldable pub sdmAbsent : Head → Bool
 sdmAbsent h =
     and (and (not (h .uid)) (and (not (h .counter)) (and (not (h .limit)) (not (h .enc)))))
-    (and (eqb (h .meta) 0) (and (eqb (h .file) 0) (eqb (h .ret) 0)))
+    (and (eqb (h .«sdm_meta_read») 0) (and (eqb (h .«sdm_file_read») 0) (eqb (h .«sdm_ctr_ret») 0)))
 
 unfoldable pub sdmPart : Settings → Bool
 sdmPart r = pick (r .head .sdm) (sdmMeets r) (sdmAbsent (r .head))

@@ -27,7 +27,7 @@ fn is_condition(c: u8) -> bool
 pub fn rights_kept(h: Head) -> bool
     ensures { λ r. ⌜ r ≡ rights h ⌝ }
 {
-    let one = truth::both(is_condition(h.both), is_condition(h.change));
+    let one = truth::both(is_condition(h.read_write), is_condition(h.change));
     truth::both(
         is_condition(h.read),
         truth::both(is_condition(h.write), one),
@@ -43,21 +43,27 @@ pub fn sdm_options_bits(b: u8) -> bool
 pub fn sdm_rights(h: Head) -> bool
     ensures { λ r. ⌜ r ≡ sdmRights h ⌝ }
 {
-    let file = truth::both(is_condition(h.file), truth::negate(h.file == 14));
-    truth::both(is_condition(h.meta), truth::both(file, is_condition(h.ret)))
+    let file = truth::both(
+        is_condition(h.sdm_file_read),
+        truth::negate(h.sdm_file_read == 14),
+    );
+    truth::both(
+        is_condition(h.sdm_meta_read),
+        truth::both(file, is_condition(h.sdm_ctr_ret)),
+    )
 }
 
 pub fn meta_mirrors(h: Head) -> bool
     ensures { λ r. ⌜ r ≡ metaMirrors h ⌝ }
 {
-    truth::either(5 <= h.meta, truth::either(h.uid, h.counter))
+    truth::either(5 <= h.sdm_meta_read, truth::either(h.uid, h.counter))
 }
 
 pub fn meta_off(h: Head) -> bool
     ensures { λ r. ⌜ r ≡ metaOff h ⌝ }
 {
     let none = truth::both(truth::negate(h.uid), truth::negate(h.counter));
-    truth::either(truth::negate(h.meta == 15), none)
+    truth::either(truth::negate(h.sdm_meta_read == 15), none)
 }
 
 pub fn enc_needs(h: Head) -> bool
@@ -66,7 +72,7 @@ pub fn enc_needs(h: Head) -> bool
     let mirrors = truth::both(h.uid, h.counter);
     truth::either(
         truth::negate(h.enc),
-        truth::both(truth::negate(h.file == 15), mirrors),
+        truth::both(truth::negate(h.sdm_file_read == 15), mirrors),
     )
 }
 

@@ -28,7 +28,7 @@ fn sdm_meets(r: Settings) -> bool
     );
     truth::both(
         truth::both(checks::sdm_rights(h), mirrors),
-        is_kept(findings::positions(r)),
+        is_kept(findings::positions(spans::reading_of(r))),
     )
 }
 
@@ -42,7 +42,10 @@ fn sdm_absent(h: Head) -> bool
     );
     truth::both(
         mirrors,
-        truth::both(h.meta == 0, truth::both(h.file == 0, h.ret == 0)),
+        truth::both(
+            h.sdm_meta_read == 0,
+            truth::both(h.sdm_file_read == 0, h.sdm_ctr_ret == 0),
+        ),
     )
 }
 

@@ -1,12 +1,12 @@
 -- A status other than 9000, 9100 and 91AF has no data and only ends what runs; files, settings, keys and versions change only with an
 -- accepting reply.
 use mathlib.Core.Path.{_≡_, refl, sym, _∙_, ap}
-use mathlib.Core.Bool.{true, false}
+use mathlib.Core.Bool.{Bool, true, false}
 use mathlib.Core.List.{List, []}
 use Prim.Native.Nat.{ℕ}
 use lib.Dec.{eqb}
 use lib.ListN.{length}
-use Rattle.base.specs.Decide.{and, or}
+use Rattle.base.specs.Decide.{pick, and, or}
 use Rattle.messaging.specs.declared.Mode.{Mode}
 use Rattle.messaging.specs.declared.Mode.the-variants.{Plain, Mac, Full}
 use Rattle.closing.specs.declared.Closed.the-variants.{Over}
@@ -16,13 +16,14 @@ use Rattle.state.specs.declared.Tag.{Tag}
 use Rattle.state.specs.State.{readingIn, endedOf, talking}
 use Rattle.replies.specs.Answer.{Answer, given, refusal, accepted}
 use Rattle.file_parts.specs.Filing.{storedIso}
-use Rattle.taps.specs.Taps.{shown, tapRead}
+use Rattle.taps.specs.Taps.{shown, tapStatus, shownPart, tapRead}
 use Rattle.auth.specs.Parts.{begun}
 use Rattle.part_two.specs.PartTwo.{enteredFirst, enteredNext, entered}
 use Rattle.selects.specs.Selects.{moved, selectedFile}
 use Rattle.tag.specs.declared.Outcome.{Outcome}
 use Rattle.tag.specs.declared.Outcome.the-variants.{Replied, SmallRoom, WrongRandom, Unsound}
-use Rattle.tag.specs.Call.{answered, outcomeOf, replied, unanswered, byOutcome}
+use Rattle.tag.specs.Way.{answered}
+use Rattle.tag.specs.Call.{outcomeOf, replied, unanswered, byOutcome}
 use Rattle.series.specs.Series.{Asked, step, accepting, passing, replies, accepts, Ended, Same}
 use Rattle.series.proofs.Choices.{not-both, way}
 use Rattle.series.proofs.Walk.{Kinds, every-answer}
@@ -46,6 +47,10 @@ yes-9100 : accepting 0x9100 ≡ true
 unfolding accepting
 yes-9100 = refl
 
+yes-tap : (iso : Bool) → accepting (pick iso 0x9000 0x9100) ≡ true
+yes-tap true = yes-9000
+yes-tap false = yes-9100
+
 yes-91AF : passing 0x91AF ≡ true
 unfolding passing accepting
 yes-91AF = refl
@@ -64,7 +69,7 @@ accepted-none t m = rw (short-none m) refl
 -- ---- what holds of each answer that accepts, of each refusal and of part one holds of every answer
 by-status : (t : Tag) (c random : List ℕ) (P : Answer → Type 0) → ((a : Answer) → accepting (a .status) ≡ true → P a)
     → ((s : ℕ) → P (refusal t s)) → ((p : Pending) → P (begun t p)) → Kinds t c random P
-unfolding entered enteredFirst enteredNext accepted tapRead storedIso moved selectedFile
+unfolding entered enteredFirst enteredNext accepted tapRead shownPart storedIso moved selectedFile
 by-status t c random P on-accepting on-refusal on-begun =
     record {
       refuses = on-refusal;
@@ -77,8 +82,9 @@ by-status t c random P on-accepting on-refusal on-begun =
       writes-iso = λ n at p. fair _ 0x9000 _ yes-9000;
       restrings = λ n p m s g. on-accepting (accepted _ m []) (accepted-none _ m);
       taps =
-          λ n iso status refusing at count e s l p f.
-          way P (eqb (shown t (readingIn (t .files) n) iso random .status) 0) (λ z. fair _ status _ e) (λ z. on-refusal refusing);
+          λ n iso at count s l p f.
+          let shows = shown t (readingIn (t .files) n) iso random in
+          way P (eqb (shows .status) 0) (λ z. fair _ (pick iso 0x9000 0x9100) _ (yes-tap iso)) (λ z. on-refusal (tapStatus iso (shows .status)));
       reads-iso = λ n at count. fair _ 0x9000 _ yes-9000;
       moves = λ application. fair _ 0x9000 _ yes-9000;
       selects = λ n h. way P (t .place .application) (λ e. fair _ 0x9000 _ yes-9000) (λ e. on-refusal 0x6A82);

@@ -11,22 +11,25 @@ use Rattle.rules.specs.Rules.{found, optionBits, sdmFile, condition, rights, re
 use Rattle.fields.specs.Normal.{plainMode, freeBits, normal}
 use Rattle.settings.specs.Filing.{fileStatus}
 use Rattle.settings.specs.Answers.{verdictOf, judged, statusWord}
-use Rattle.state.specs.State.{startOf, sizeOf as fileSize, fileOf, slotOf, rulesOf, readingIn, noLive, noPending, quieted, endedOf, placed, talking, tapped, filed}
+use Rattle.state.specs.State.{startOf, sizeOf as fileSize, fileOf, slotOf, rulesOf, readingIn, noLive, noPending, quieted, endedOf, placed, talking, tapped, filed, sessionOf}
 use Rattle.delivery.specs.Fresh.{container, deliveredFiles, freshTag}
-use Rattle.access.specs.Access.{granted, readGrant, changeGrant, fileMode, accessFor, accessStatus, grantStatus}
+use Rattle.access.specs.Access.{granted, readGrant, changeGrant, grantFor, fileMode, underKey, modeFor, reads, decided, grantStatus}
 use Rattle.soundness.specs.Sound.{rulesSound, keysSound, aloneSound, levelSound, soundTag}
-use Rattle.replies.specs.Answer.{refusal, raised, sessionOf, afterwards, accepted}
+use Rattle.replies.specs.Answer.{refusal, raised, afterwards, accepted}
 use Rattle.file_parts.specs.Filing.{stored, storedIso}
 use Rattle.details.specs.Details.{settingsReply, fileSettings}
 use Rattle.change_settings.specs.ChangeSettings.{withRules, recounted, restrung, changedSettings}
 use Rattle.contents.specs.Contents.{readData}
 use Rattle.selects.specs.Selects.{moved, selectedFile, ofId, byId, byName, selected}
-use Rattle.binaries.specs.Binaries.{mayPass, mayUse, isoPart, readRange, readBinary}
+use Rattle.binaries.specs.Binaries.{isoPart, readBinary, binary}
 use Rattle.base.specs.Decide.{oneOf}
-use Rattle.order.specs.Order.{formRight, commandData, orderStatus, headerLength, hasData, byteStatus, frontStatus}
-use Rattle.wrapped.specs.Wrapped.{own, fromStep7, fromStep5, commanded, wrapped}
-use Rattle.inter_industry.specs.InterIndustry.{isoForm, lcOf, hasLe, dataOf, fits, onFile, isoCommanded, interIndustry}
-use Rattle.tag.specs.Call.{answered, withStatus, replyOf}
+use Rattle.order.specs.Names.{classOf, insOf, among, named}
+use Rattle.order.specs.Order.{formRight, commandData, orderStatus, headerLength, hasData, namesKey, byteStatus, frontStatus, wrappedStatus}
+use Rattle.order.specs.Order.{isoForm, lcOf, hasLe, fits, onFileStatus, isoStatus}
+use Rattle.order.specs.Commands.{wrappedCommand, isoCommand, byStatus, wrappedOrder, isoOrder, ordered, dataOf}
+use Rattle.wrapped.specs.Wrapped.{own, wrapped}
+use Rattle.tag.specs.Way.{fromStep7, onGrant, fromStep6, commanded, answered}
+use Rattle.tag.specs.Call.{withStatus, replyOf}
 
 -- a settings string: read, judged, normalised
 unfoldable pub a-string : Bool
@@ -56,7 +59,7 @@ soundness = true
 
 -- a command: access, message, answer
 unfoldable pub access : Bool
-unfolding granted readGrant changeGrant modeNumber fileMode accessFor accessStatus grantStatus
+unfolding granted readGrant changeGrant grantFor modeNumber fileMode underKey modeFor reads decided grantStatus
 access = true
 
 unfoldable pub a-message : Bool
@@ -67,9 +70,22 @@ unfoldable pub an-answer : Bool
 unfolding refusal raised sessionOf afterwards accepted stored storedIso answered withStatus replyOf
 an-answer = true
 
--- CLA 90: form, order of checks, commands
+-- a command's bytes as a value
+unfoldable pub a-name : Bool
+unfolding classOf insOf among named byStatus ordered dataOf oneOf
+a-name = true
+
+unfoldable pub an-order : Bool
+unfolding a-name formRight commandData orderStatus headerLength hasData namesKey fileStatus byteStatus frontStatus wrappedStatus wrappedCommand wrappedOrder
+an-order = true
+
+unfoldable pub an-iso-order : Bool
+unfolding a-name isoForm lcOf hasLe fits onFileStatus isoStatus isoCommand isoOrder
+an-iso-order = true
+
+-- CLA 90: steps 6 to 9
 unfoldable pub a-wrapped-command : Bool
-unfolding oneOf formRight commandData orderStatus headerLength hasData fileStatus byteStatus frontStatus own fromStep7 fromStep5 commanded wrapped
+unfolding an-order own wrapped fromStep7 onGrant fromStep6 commanded
 a-wrapped-command = true
 
 unfoldable pub its-own-values : Bool
@@ -78,14 +94,10 @@ its-own-values = true
 
 -- CLA 00
 unfoldable pub an-iso-command : Bool
-unfolding isoForm lcOf hasLe dataOf fits onFile isoCommanded interIndustry
+unfolding an-iso-order moved selectedFile ofId byId byName selected isoPart readBinary binary
 an-iso-command = true
-
-unfoldable pub a-select-or-read : Bool
-unfolding moved selectedFile ofId byId byName selected mayPass mayUse isoPart readRange readBinary
-a-select-or-read = true
 
 -- any of these commands, to any of these tags
 unfoldable pub a-call : Bool
-unfolding a-state access a-message an-answer a-wrapped-command its-own-values an-iso-command a-select-or-read its-verdict
+unfolding a-state access a-message an-answer a-wrapped-command its-own-values an-iso-command its-verdict
 a-call = true

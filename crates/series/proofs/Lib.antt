@@ -1,4 +1,5 @@
 pub mod Choices
+pub mod Orders
 pub mod Walk
 pub mod Places
 pub mod Clauses

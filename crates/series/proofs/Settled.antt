@@ -29,7 +29,7 @@ use Rattle.mirror.specs.Mirrors.{laidOf}
 use Rattle.state.specs.State.{fileOf, slotOf, rulesOf, readingIn, filed, tapped}
 use Rattle.soundness.specs.Sound.{good, rulesSound}
 use Rattle.taps.specs.declared.Shown.{Shown}
-use Rattle.taps.specs.Taps.{goesOn, startStatus, counted, mirrorFor, shown, tapRead}
+use Rattle.taps.specs.Taps.{goesOn, startStatus, counted, mirrorFor, shown, tapStatus, shownPart, tapRead}
 use Rattle.change_settings.specs.ChangeSettings.{withRules, recounted, restrung, byVerdict}
 use Rattle.series.proofs.Choices.{not-both, way}
 use Rattle.series.proofs.Places.{length-other, length-same, slot-other, slot-same, same-slot, slot-1, slot-2, slot-3}
@@ -96,10 +96,10 @@ counter-restrung : (b : Bool) (counter : ℕ) → leb counter 16777215 ≡ true 
 counter-restrung true counter e = refl
 counter-restrung false counter e = e
 
-pub calm-restrung : (t : Tag) → Calm t → (n : ℕ) (p : List ℕ) → judged n p ≡ Good
-    → Calm (restrung t (withRules (t .files) n (padOut p) (length p)) n)
+pub calm-restrung : (t : Tag) → Calm t → (n : ℕ) (p : List ℕ) → judged n p ≡ Good → (before on : Bool)
+    → Calm (restrung t before on (withRules (t .files) n (padOut p) (length p)))
 unfolding restrung recounted tapped filed
-calm-restrung t c n p g =
+calm-restrung t c n p g before on =
     let f = withRules (t .files) n (padOut p) (length p) in
     let l = c .lasting in
     let stays : (k : ℕ) → slotOf k ≤ 2 → rulesSound (t .files) k ≡ true → rulesSound f k ≡ true =
@@ -112,18 +112,18 @@ calm-restrung t c n p g =
             one = stays 1 slot-1 (l .one);
             two = stays 2 slot-2 (l .two);
             three = stays 3 slot-3 (l .three);
-            range =
-                counter-restrung (and (readingIn f n .settings .head .sdm) (not (readingIn (t .files) n .settings .head .sdm))) (t .tap .counter) (l .range);
+            range = counter-restrung (and on (not before)) (t .tap .counter) (l .range);
             first = l .first;
           };
       keys = c .keys;
       level = c .level;
     }
 
-pub fine-restrung : (t : Tag) → Calm t → (n : ℕ) (p : List ℕ) (m : Mode) → judged n p ≡ Good → FineAfter (byVerdict t n p m Good)
+pub fine-restrung : (t : Tag) → Calm t → (n : ℕ) (r : Reading) (p : List ℕ) (m : Mode) → judged n p ≡ Good → FineAfter (byVerdict t n r p m Good)
 unfolding padOut
-fine-restrung t c n p m g =
-    fine-accepted (restrung t (withRules (t .files) n (padOut p) (length p)) n) (calm-restrung t c n p g) m []
+fine-restrung t c n r p m g =
+    let before = r .settings .head .sdm in
+    fine-accepted (restrung t before (sdmOn p) (withRules (t .files) n (padOut p) (length p))) (calm-restrung t c n p g before (sdmOn p)) m []
 
 -- ---- taps
 -- SDM is on only in file 2
@@ -177,12 +177,11 @@ shown-range t h r iso random =
     (λ e. way InRange (l .inside) (λ i z. counted-range going (t .tap .counter) h) (λ i z. absurd (not-both z)))
     (λ e z. absurd (not-both (sym e ∙ z)))
 
-pub fine-tapped : (t : Tag) → Fine t → (n : ℕ) (iso : Bool) (random : List ℕ) (accepting refusing at count : ℕ)
+pub fine-tapped : (t : Tag) → Fine t → (n : ℕ) (iso : Bool) (random : List ℕ) (at count : ℕ)
     → readingIn (t .files) n .settings .head .sdm ≡ true → t .live .on ≡ false → t .pending .on ≡ false
-    → or (t .place .application) (not (eqb (t .place .file) 0)) ≡ true
-    → FineAfter (tapRead t (shown t (readingIn (t .files) n) iso random) accepting refusing at count)
-unfolding tapRead tapped
-fine-tapped t h n iso random accepting refusing at count sdm off free placed =
+    → or (t .place .application) (not (eqb (t .place .file) 0)) ≡ true → FineAfter (tapRead t (readingIn (t .files) n) iso at count random)
+unfolding tapRead shownPart tapped
+fine-tapped t h n iso random at count sdm off free placed =
     let c = h .calm in
     let l = c .lasting in
     let s = shown t (readingIn (t .files) n) iso random in
@@ -211,4 +210,4 @@ fine-tapped t h n iso random accepting refusing at count sdm off free placed =
           alone-tap (s .tap .on) (t .live .on) (t .pending .on) (readingIn (t .files) 2 .settings .head .sdm) off free
           (subst (λ k. readingIn (t .files) k .settings .head .sdm ≡ true) (tapped-file t c n sdm) sdm);
     })
-    (λ e. fine-refused t c refusing)
+    (λ e. fine-refused t c (tapStatus iso (s .status)))

@@ -17,7 +17,8 @@ use Rattle.file_parts.specs.Filing.{storedIso, withBytes}
 use Rattle.auth.specs.Parts.{begun}
 use Rattle.part_two.specs.PartTwo.{sessionFrom, enteredFirst, enteredNext, entered}
 use Rattle.selects.specs.Selects.{moved, selectedFile}
-use Rattle.tag.specs.Call.{answered, outcomeOf, replied, unanswered, byOutcome}
+use Rattle.tag.specs.Way.{answered}
+use Rattle.tag.specs.Call.{outcomeOf, replied, unanswered, byOutcome}
 use Rattle.tag.specs.declared.Outcome.{Outcome}
 use Rattle.tag.specs.declared.Outcome.the-variants.{Replied, SmallRoom, WrongRandom, Unsound}
 use Rattle.series.specs.Series.{Asked, step, after, Typed}
@@ -102,8 +103,8 @@ fine-kinds t h c random =
       rekeys-first = λ s. fine-ended (keyed t s) (calm-keyed t h₀ s);
       writes = λ n at p m. fine-accepted (filed t (withBytes (t .files) n at p)) (calm-filed t h₀ n at p) m [];
       writes-iso = λ n at p. fine-after (filed t (withBytes (t .files) n at p)) (calm-filed t h₀ n at p);
-      restrings = λ n p m s. fine-restrung t h₀ n p m;
-      taps = λ n iso status refusing at count a. fine-tapped t h n iso random status refusing at count;
+      restrings = λ n p m s. fine-restrung t h₀ n (readingIn (t .files) n) p m;
+      taps = λ n iso at count. fine-tapped t h n iso random at count;
       reads-iso = λ n at count. fine-after t h₀;
       moves = fine-moved t h₀;
       selects = fine-selected t h₀;

@@ -6,13 +6,17 @@ use Prim.Native.Nat.{ℕ}
 use lib.Dec.{eqb}
 use lib.ListN.{length}
 use Rattle.base.specs.Decide.{and, or}
+use Rattle.base.specs.Status.{operationOk, additionalFrame, isoNormal}
 use Rattle.aes.specs.Block.{IsBlock}
 use Rattle.state.specs.declared.Tag.{Tag}
 use Rattle.state.specs.State.{endedOf}
+use Rattle.access.specs.declared.Grant.{Grant}
+use Rattle.access.specs.declared.Grant.the-variants.{ByKey, ByTap, Free, Unasked, Never, Denied}
 use Rattle.replies.specs.Answer.{Answer}
 use Rattle.tag.specs.declared.Outcome.{Outcome}
 use Rattle.tag.specs.declared.Outcome.the-variants.{Replied, SmallRoom, WrongRandom, Unsound}
-use Rattle.tag.specs.Call.{answered, outcomeOf, byOutcome}
+use Rattle.tag.specs.Way.{answered}
+use Rattle.tag.specs.Call.{outcomeOf, byOutcome}
 
 -- what a caller brings: a command, random bytes and a room, any of them
 pub record Asked : Type 0 where
@@ -31,11 +35,11 @@ after t (a ∷ more) = after (step t a) more
 -- ---- what a status says
 -- the statuses that accept
 unfoldable pub accepting : ℕ → Bool
-accepting status = or (eqb status 0x9000) (eqb status 0x9100)
+accepting status = or (eqb status isoNormal) (eqb status operationOk)
 
 -- 9000, 9100 and 91AF
 unfoldable pub passing : ℕ → Bool
-passing status = or (accepting status) (eqb status 0x91AF)
+passing status = or (accepting status) (eqb status additionalFrame)
 
 -- there is a reply: none of refusals 1 to 3
 abbrev pub replies : Outcome → Bool
@@ -43,6 +47,15 @@ replies Replied = true
 replies SmallRoom = false
 replies WrongRandom = false
 replies Unsound = false
+
+-- the grants that let a command on
+abbrev pub allows : Grant → Bool
+allows ByKey = true
+allows ByTap = true
+allows Free = true
+allows Unasked = true
+allows Never = false
+allows Denied = false
 
 -- a call with an accepting reply
 unfoldable pub accepts : Tag → Asked → Bool

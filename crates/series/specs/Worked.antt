@@ -9,7 +9,8 @@ use Rattle.settings.specs.Answers.{judged}
 use Rattle.meanings.specs.Worked.{example}
 use Rattle.state.specs.declared.Tag.{Tag}
 use Rattle.delivery.specs.Fresh.{freshTag}
-use Rattle.tag.specs.Call.{answered, replyOf}
+use Rattle.tag.specs.Way.{answered}
+use Rattle.tag.specs.Call.{replyOf}
 
 -- 00A4040007D276000085010100
 unfoldable pub selectApplication : List ℕ

@@ -1,12 +1,14 @@
 -- What the functions answer, and the numbers of 01 and Table 71 for each case.
 use mathlib.Core.List.{List}
 use Prim.Native.Nat.{ℕ}
+use Rattle.base.specs.Status.{operationOk, lengthError, parameterError}
 use Rattle.settings.specs.declared.Status.{Status}
 use Rattle.settings.specs.declared.Status.the-variants.{LengthError, ParameterError}
 use Rattle.settings.specs.declared.Verdict.{Verdict}
 use Rattle.settings.specs.declared.Verdict.the-variants.{Good, Refused, WrongFile}
 use Rattle.rules.specs.declared.Finding.{Finding}
 use Rattle.rules.specs.declared.Finding.the-variants.{Kept, Missing, Wrong}
+use Rattle.settings.specs.declared.Seen.{Seen}
 use Rattle.settings.specs.declared.Told.{Told}
 use Rattle.settings.specs.declared.Told.the-variants.{Means, Unread, UnreadFile}
 use Rattle.fields.specs.Fields.{readOf}
@@ -16,8 +18,8 @@ use Rattle.settings.specs.Filing.{byFault, fileFaultWord}
 
 -- Table 71: LENGTH_ERROR 7E, PARAMETER_ERROR 9E, behind 91
 unfoldable pub statusWord : Status → ℕ
-statusWord LengthError = 0x917E
-statusWord ParameterError = 0x919E
+statusWord LengthError = lengthError
+statusWord ParameterError = parameterError
 
 -- 917E where a part is missing or the length is wrong, 919E where a test fails
 unfoldable pub verdictOf : Finding → Verdict
@@ -29,9 +31,13 @@ verdictOf (Wrong k) = Refused ParameterError
 unfoldable pub judged : ℕ → List ℕ → Verdict
 judged n s = byFault n WrongFile (verdictOf (found (rules n s)))
 
+-- the verdict, and what the string means, good or not
+unfoldable pub seen : ℕ → List ℕ → Seen
+seen n s = record { verdict = judged n s; reading = readingOf (readOf s) }
+
 -- its number, 9100 for a good string
 unfoldable pub verdictWord : Verdict → ℕ
-verdictWord Good = 0x9100
+verdictWord Good = operationOk
 verdictWord (Refused e) = statusWord e
 verdictWord (WrongFile f) = fileFaultWord f
 
@@ -43,6 +49,6 @@ readAs (WrongFile f) s = UnreadFile f
 
 -- its number, 9100 where the string is read
 unfoldable pub toldWord : Told → ℕ
-toldWord (Means r) = 0x9100
+toldWord (Means r) = operationOk
 toldWord (Unread e) = statusWord e
 toldWord (UnreadFile f) = fileFaultWord f

@@ -2,6 +2,7 @@
 use Prim.Native.Nat.{ℕ}
 use lib.Dec.{eqb, ltb}
 use Rattle.base.specs.Decide.{pick, or}
+use Rattle.base.specs.Status.{parameterError, fileNotFound}
 use Rattle.settings.specs.declared.FileFault.{FileFault}
 use Rattle.settings.specs.declared.FileFault.the-variants.{OverThirtyOne, NoSuchFile}
 use Rattle.settings.specs.declared.Filed.{Filed}
@@ -12,8 +13,8 @@ abbrev pub byFault : {A : Type 0} → ℕ → (FileFault → A) → A → A
 byFault n fault known = pick (ltb 31 n) (fault OverThirtyOne) (pick (or (eqb n 0) (ltb 3 n)) (fault NoSuchFile) known)
 
 abbrev pub fileFaultWord : FileFault → ℕ
-fileFaultWord OverThirtyOne = 0x919E
-fileFaultWord NoSuchFile = 0x91F0
+fileFaultWord OverThirtyOne = parameterError
+fileFaultWord NoSuchFile = fileNotFound
 
 -- whether there is a file n, and its number
 unfoldable pub fileJudged : ℕ → Filed

@@ -1,7 +1,8 @@
 // Settings strings (Tables 69 and 73) judged, and good ones read, without any cryptography.
 ghost use mathlib.Core.Path.{_≡_};
-ghost use Rattle.settings.specs.Filing.{fileFaultWord, fileJudged, filedWord, fileStatus};
-ghost use Rattle.settings.specs.Answers.{statusWord, verdictOf, verdictWord, judged, readAs, toldWord};
+ghost use Rattle.settings.specs.declared.Verdict.the-variants.{WrongFile};
+ghost use Rattle.settings.specs.Filing.{byFault, fileFaultWord, fileJudged, filedWord, fileStatus};
+ghost use Rattle.settings.specs.Answers.{statusWord, verdictOf, verdictWord, judged, seen, readAs, toldWord};
 use rules::Finding;
 use spans::Reading;
 
@@ -27,6 +28,12 @@ pub enum Verdict {
     Good,
     Refused(Status),
     WrongFile(FileFault),
+}
+
+// The verdict on a string, and what it means, good or not.
+pub struct Seen {
+    pub verdict: Verdict,
+    pub reading: Reading,
 }
 
 // What reading answers.
@@ -84,15 +91,33 @@ fn verdict_of(f: Finding) -> Verdict
     }
 }
 
+// The verdict by the file byte, which is judged first, and by the first rule that is broken.
+fn verdict_for(file: u8, found: Finding) -> Verdict
+    ensures { λ r. ⌜ r ≡ byFault file WrongFile (verdictOf found) ⌝ }
+{
+    let f = judge_file(file);
+    match f {
+        Filed::Known => verdict_of(found),
+        Filed::Unknown(e) => Verdict::WrongFile(e),
+    }
+}
+
+// Whether a string is good for a file, or its status, and what it means: it is read once.
+pub fn see(file: u8, s: &[u8]) -> Seen
+    ensures { λ r. ⌜ r ≡ seen file (now (s .entry)) ⌝ }
+{
+    let e = rules::examine(file, s);
+    let found = e.finding;
+    let reading = e.reading;
+    let verdict = verdict_for(file, found);
+    Seen { verdict, reading }
+}
+
 // Whether a string is good for a file, or its status; the file byte is judged before the string is looked at.
 pub fn judge(file: u8, s: &[u8]) -> Verdict
     ensures { λ r. ⌜ r ≡ judged file (now (s .entry)) ⌝ }
 {
-    let f = judge_file(file);
-    match f {
-        Filed::Known => verdict_of(rules::broken(file, s)),
-        Filed::Unknown(e) => Verdict::WrongFile(e),
-    }
+    see(file, s).verdict
 }
 
 // What a good string means, or the status of a bad one.
@@ -100,10 +125,12 @@ pub fn read(file: u8, s: &[u8]) -> Told
     ensures told { λ r. ⌜ r ≡ readAs (judged file (now (s .entry))) (now (s .entry)) ⌝ }
     ensures number { λ r. ⌜ toldWord r ≡ verdictWord (judged file (now (s .entry))) ⌝ }
 {
-    let v = judge(file, s);
+    let e = see(file, s);
+    let v = e.verdict;
+    let reading = e.reading;
     match v {
-        Verdict::Good => Told::Means(spans::meaning(s)),
-        Verdict::Refused(e) => Told::Unread(e),
+        Verdict::Good => Told::Means(reading),
+        Verdict::Refused(w) => Told::Unread(w),
         Verdict::WrongFile(f) => Told::UnreadFile(f),
     }
 }

@@ -1,2 +1,2 @@
-pub mod Normals
+pub mod Readings
 pub mod Truth

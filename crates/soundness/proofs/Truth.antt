@@ -1,5 +1,5 @@
 -- Truth values: what a false or a true last part leaves of a conjunction.
-use mathlib.Core.Path.{_≡_, refl}
+use mathlib.Core.Path.{_≡_, refl, ap₂, _∙_}
 use mathlib.Core.Bool.{Bool, true, false}
 use Prim.Native.Nat.{ℕ, zero, suc}
 use native.Mathlib.Omega.{arith}
@@ -14,6 +14,10 @@ and-false false = refl
 pub and-true : (a : Bool) → and a true ≡ a
 and-true true = refl
 and-true false = refl
+
+-- both, by what each is
+pub and-of : {r a b x y : Bool} → r ≡ and a b → a ≡ x → b ≡ y → r ≡ and x y
+and-of e p q = e ∙ ap₂ (λ u v. and u v) p q
 
 -- what is 0 is at most 3
 pub and-zero : (n : ℕ) → and (leb n 3) (eqb n 0) ≡ eqb n 0

@@ -12,6 +12,7 @@ use Rattle.fields.specs.Normal.{normal}
 use Rattle.state.specs.declared.Files.{Files}
 use Rattle.state.specs.declared.Tag.{Tag}
 use Rattle.state.specs.State.{slotOf, rulesOf, readingIn}
+use Rattle.soundness.specs.declared.Judged.{Judged}
 
 abbrev pub good : Verdict → Bool
 good Good = true
@@ -50,3 +51,13 @@ soundTag t =
     (and (keysSound (t .live .on) (t .live .key) (t .pending .on) (t .pending .key))
     (and (aloneSound (t .tap .on) (t .live .on) (t .pending .on) (readingIn (t .files) 2 .settings .head .sdm))
     (levelSound (t .place .application) (t .live .on) (t .pending .on) (t .tap .on) (t .place .file))))))))
+
+-- whether it is sound, and what the settings of files 1 to 3 mean
+unfoldable pub judgedTag : Tag → Judged
+judgedTag t =
+    record {
+      sound = soundTag t;
+      first = readingIn (t .files) 1;
+      second = readingIn (t .files) 2;
+      third = readingIn (t .files) 3;
+    }

@@ -1,36 +1,45 @@
-// Soundness: 01's refusal 3, clause by clause.
+// Soundness: 01's refusal 3, clause by clause, and the readings of the three files.
 ghost use mathlib.Core.Path.{_≡_};
 ghost use lib.Dec.{leb};
-ghost use lib.ListN.{length};
 ghost use Rattle.base.specs.Decide.{and};
 ghost use Rattle.base.specs.Bytes.{byteAt};
+ghost use Rattle.fields.specs.Fields.{readOf};
+ghost use Rattle.spans.specs.Spans.{readingOf};
 ghost use Rattle.state.specs.State.{slotOf, stringAt};
-ghost use Rattle.soundness.specs.Sound.{stringSound, keysSound, aloneSound, levelSound, soundTag};
-use normalising::Normalised;
+ghost use Rattle.soundness.specs.Sound.{good, stringSound, keysSound, aloneSound, levelSound, soundTag, judgedTag};
+use crate::Judged;
+use settings::Verdict;
+use spans::Reading;
 use state::Tag;
 
-// Whether a string of at most 27 bytes keeps the rules for a file and is its own normal form.
-fn is_normal(n: u8, s: &[u8]) -> bool
-    ensures { λ r. ⌜ r ≡ and (leb (length (now (s .entry))) 27) (stringSound n (now (s .entry))) ⌝ }
+// Whether the settings of a file have at most 27 bytes, keep the rules and are normal; and what they mean.
+struct FileJudged {
+    sound: bool,
+    reading: Reading,
+}
+
+fn is_good(v: Verdict) -> bool
+    ensures { λ r. ⌜ r ≡ good v ⌝ }
 {
-    let mut room = [0u8; 27];
-    let a = normalising::normalise(n, s, &mut room);
-    match a {
-        Normalised::Normal(k) => base::alike(s, &room[..k]),
-        Normalised::BadFile(_) => false,
-        Normalised::BadString(_) => false,
-        Normalised::RoomTooSmall => false,
+    match v {
+        Verdict::Good => true,
+        Verdict::Refused(_) => false,
+        Verdict::WrongFile(_) => false,
     }
 }
 
-// The settings of a file have at most 27 bytes, keep the rules and are normal.
-fn rules_sound(rules: &[u8; 81], lens: [u8; 3], n: u8) -> bool
-    ensures { λ r. ⌜ r ≡ and (leb (byteAt lens (slotOf n)) 27) (stringSound n (stringAt (now (rules .entry)) lens n)) ⌝ }
+// The settings of file n, read once.
+fn judge_settings(rules: &[u8; 81], lens: [u8; 3], n: u8) -> FileJudged
+    ensures sound { λ r. ⌜ r .sound ≡ and (leb (byteAt lens (slotOf n)) 27) (stringSound n (stringAt (now (rules .entry)) lens n)) ⌝ }
+    ensures reading { λ r. ⌜ r .reading ≡ readingOf (readOf (stringAt (now (rules .entry)) lens n)) ⌝ }
 {
-    if base::at(&lens, state::slot_of(n)) <= 27 {
-        return is_normal(n, state::string_in(rules, lens, n));
-    }
-    false
+    let s = state::string_in(rules, lens, n);
+    let e = settings::see(n, s);
+    let v = e.verdict;
+    let reading = e.reading;
+    let short = base::at(&lens, state::slot_of(n)) <= 27;
+    let sound = both(short, both(is_good(v), normalising::is_normal(s)));
+    FileJudged { sound, reading }
 }
 
 // Key numbers over 4; session and pending part both.
@@ -91,40 +100,50 @@ fn both(a: bool, b: bool) -> bool
     if a { b } else { false }
 }
 
-// Whether a state is sound.
-pub fn sound(t: Tag) -> bool
-    ensures { λ r. ⌜ r ≡ soundTag t ⌝ }
+// Whether a state is sound, and what its settings mean.
+pub fn judge_tag(t: Tag) -> Judged
+    ensures { λ r. ⌜ r ≡ judgedTag t ⌝ }
 {
     let uid = t.uid;
     let rules = t.files.rules;
     let lens = t.files.lens;
-    let sdm = state::head_in(&rules, lens, 2).sdm;
-    both(
-        rules_sound(&rules, lens, 1),
+    let one = judge_settings(&rules, lens, 1);
+    let two = judge_settings(&rules, lens, 2);
+    let three = judge_settings(&rules, lens, 3);
+    let talks = both(
+        keys_sound(t.live.on, t.live.key, t.pending.on, t.pending.key),
         both(
-            rules_sound(&rules, lens, 2),
-            both(
-                rules_sound(&rules, lens, 3),
-                both(
-                    t.tap.counter <= 16777215,
-                    both(
-                        uid[0] == 4,
-                        both(
-                            keys_sound(t.live.on, t.live.key, t.pending.on, t.pending.key),
-                            both(
-                                alone_sound(t.tap.on, t.live.on, t.pending.on, sdm),
-                                level_sound(
-                                    t.place.application,
-                                    t.live.on,
-                                    t.pending.on,
-                                    t.tap.on,
-                                    t.place.file,
-                                ),
-                            ),
-                        ),
-                    ),
-                ),
+            alone_sound(
+                t.tap.on,
+                t.live.on,
+                t.pending.on,
+                two.reading.settings.head.sdm,
+            ),
+            level_sound(
+                t.place.application,
+                t.live.on,
+                t.pending.on,
+                t.tap.on,
+                t.place.file,
             ),
         ),
-    )
+    );
+    let rest = both(t.tap.counter <= 16777215, both(uid[0] == 4, talks));
+    let sound = both(one.sound, both(two.sound, both(three.sound, rest)));
+    let first = one.reading;
+    let second = two.reading;
+    let third = three.reading;
+    Judged {
+        sound,
+        first,
+        second,
+        third,
+    }
+}
+
+// Whether a state is sound.
+pub fn sound(t: Tag) -> bool
+    ensures { λ r. ⌜ r ≡ soundTag t ⌝ }
+{
+    judge_tag(t).sound
 }

@@ -12,10 +12,7 @@ use borrow.Author.Tests.{le-leb, lt-leb}
 use Rattle.base.specs.Decide.{pick}
 use Rattle.base.specs.Bytes.{byteAt}
 use Rattle.base.proofs.Bytes.{le-or-lt}
-use Rattle.fields.specs.Fields.{readOf}
-use Rattle.spans.specs.Spans.{readingOf}
-use Rattle.state.specs.declared.Files.{Files}
-use Rattle.state.specs.State.{slotOf, stringAt, rulesOf, headIn, readingIn}
+use Rattle.state.specs.State.{slotOf, stringAt}
 
 pub slot-small : (n : ℕ) → slotOf n ≤ 3
 unfolding slotOf
@@ -55,11 +52,6 @@ string-from rules lens n i len e l =
     ap (λ k. take k (drop (i * 27) rules)) (d ∙ l)
     ∙ cut-string (byteAt lens i) (drop (i * 27) rules)
     ∙ ap (λ j. take (byteAt lens j) (take 27 (drop (j * 27) rules))) e
-
--- the fields in front are a part of the whole meaning
-pub head-there : (f : Files) (n : ℕ) → headIn (f .rules) (f .lens) n ≡ readingIn f n .settings .head
-unfolding headIn readingIn rulesOf readOf readingOf
-head-there f n = refl
 
 pub string-short : (rules lens : List ℕ) (n : ℕ) → length (stringAt rules lens n) ≤ 27
 string-short rules lens n = simp length-take (omega arith)

@@ -6,9 +6,9 @@ use lib.Dec.{eqb, leb}
 use lib.ListN.{take, drop, replicate}
 use Rattle.base.specs.Decide.{pick}
 use Rattle.base.specs.Bytes.{byteAt}
-use Rattle.fields.specs.declared.Head.{Head}
 use Rattle.spans.specs.declared.Reading.{Reading}
-use Rattle.fields.specs.Fields.{headOf, readOf}
+use Rattle.messaging.specs.declared.Session.{Session}
+use Rattle.fields.specs.Fields.{readOf}
 use Rattle.spans.specs.Spans.{readingOf}
 use Rattle.state.specs.declared.Files.{Files}
 use Rattle.state.specs.declared.Secrets.{Secrets}
@@ -44,16 +44,17 @@ stringAt rules lens n = take (byteAt lens (slotOf n)) (take 27 (drop (slotOf n *
 unfoldable pub rulesOf : Files → ℕ → List ℕ
 rulesOf f n = stringAt (f .rules) (f .lens) n
 
--- what the fields in front of it mean, and what all of it means
-unfoldable pub headIn : List ℕ → List ℕ → ℕ → Head
-headIn rules lens n = headOf (stringAt rules lens n)
-
+-- what it means
 unfoldable pub readingIn : Files → ℕ → Reading
 readingIn f n = readingOf (readOf (rulesOf f n))
 
 -- key k; for a number over 4, which no sound state and no accepted command has, zeros stand in
 unfoldable pub keyIn : List ℕ → ℕ → List ℕ
 keyIn keys k = pick (leb k 4) (take 16 (drop (k * 16) keys)) (replicate 16 0)
+
+-- what protects the messages of a session
+unfoldable pub sessionOf : Live → Session
+sessionOf l = record { enc = l .enc; mac = l .mac; ti = l .ti; counter = l .counter }
 
 -- what has ended leaves zeros
 unfoldable pub noLive : Live

@@ -6,14 +6,15 @@ mod parts;
 pub use parts::ended;
 pub use parts::file_size;
 pub use parts::file_start;
-pub use parts::head_in;
 pub use parts::key_of;
 pub use parts::no_live;
 pub use parts::no_pending;
 pub use parts::quiet;
 pub use parts::reading_in;
+pub use parts::session_of;
 pub use parts::slot_of;
 pub use parts::string_in;
+pub use parts::talking;
 
 // The files' bytes (file 1 from 0, file 2 from 32, file 3 from 288), their settings strings (27 bytes for each) and the
 // strings' lengths.

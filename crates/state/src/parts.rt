@@ -3,13 +3,13 @@ ghost use mathlib.Core.Path.{_≡_};
 ghost use lib.Dec.{leb};
 ghost use Rattle.base.specs.Decide.{pick};
 ghost use Rattle.base.specs.Bytes.{byteAt};
-ghost use Rattle.state.specs.State.{startOf, sizeOf, slotOf, stringAt, headIn, readingIn, keyIn, noLive, noPending, quieted, endedOf};
+ghost use Rattle.state.specs.State.{startOf, sizeOf, slotOf, stringAt, readingIn, keyIn, sessionOf, noLive, noPending, quieted, talking, endedOf};
 use crate::Files;
 use crate::Live;
 use crate::Pending;
 use crate::Tag;
 use crate::Tapping;
-use fields::Head;
+use messaging::Session;
 use spans::Reading;
 
 // Where a file's bytes begin; behind the last for any other number.
@@ -70,13 +70,6 @@ pub fn string_in(rules: &[u8; 81], lens: [u8; 3], n: u8) -> &[u8]
     &all[at..end]
 }
 
-// What the fields in front of a file's settings string mean.
-pub fn head_in(rules: &[u8; 81], lens: [u8; 3], n: u8) -> Head
-    ensures { λ r. ⌜ r ≡ headIn (now (rules .entry)) lens n ⌝ }
-{
-    fields::head_of(string_in(rules, lens, n))
-}
-
 // What a file's settings mean.
 pub fn reading_in(f: Files, n: u8) -> Reading
     ensures { λ r. ⌜ r ≡ readingIn f n ⌝ }
@@ -96,6 +89,21 @@ pub fn key_of(keys: [u8; 80], k: u8) -> [u8; 16]
         base::put(&keys[at..at + 16], &mut r, 0);
     }
     r
+}
+
+// What protects the messages of a session.
+pub fn session_of(l: Live) -> Session
+    ensures { λ r. ⌜ r ≡ sessionOf l ⌝ }
+{
+    let enc = l.enc;
+    let mac = l.mac;
+    let ti = l.ti;
+    Session {
+        enc,
+        mac,
+        ti,
+        counter: l.counter,
+    }
 }
 
 // No session.
@@ -138,16 +146,21 @@ pub fn quiet(t: Tapping) -> Tapping
     }
 }
 
-// Session, pending part two and tap have ended.
-pub fn ended(tag: Tag) -> Tag
-    ensures { λ r. ⌜ r ≡ endedOf tag ⌝ }
+// The tag with another session and pending part, and no tap.
+pub fn talking(tag: Tag, l: Live, p: Pending) -> Tag
+    ensures { λ r. ⌜ r ≡ talking tag l p ⌝ }
 {
     let mut t = tag;
-    let l = no_live();
-    let p = no_pending();
     let q = quiet(t.tap);
     t.live = l;
     t.pending = p;
     t.tap = q;
     t
+}
+
+// Session, pending part two and tap have ended.
+pub fn ended(tag: Tag) -> Tag
+    ensures { λ r. ⌜ r ≡ endedOf tag ⌝ }
+{
+    talking(tag, no_live(), no_pending())
 }

@@ -48,7 +48,7 @@ rightsForm =
 -- the number of a file, its CommMode (0 Plain, 1 MAC, 3 Full) and its four conditions
 unfoldable pub rightsOf : ℕ → Head → List ℕ
 rightsOf number h =
-    formOf true rightsForm (number ∷ h .read ∷ h .write ∷ h .both ∷ h .change ∷ []) (eqb (h .mode) 0 ∷ eqb (h .mode) 1 ∷ eqb (h .mode) 3 ∷ [])
+    formOf true rightsForm (number ∷ h .read ∷ h .write ∷ h .«read_write» ∷ h .change ∷ []) (eqb (h .mode) 0 ∷ eqb (h .mode) 1 ∷ eqb (h .mode) 3 ∷ [])
 
 -- "\n          SDM on, MetaRead %, FileRead %, CtrRet %{, UID at #}{, counter at #}{, PICCData at #}{ (UID)}{ (counter)}{, ENC at #}{, MAC input at #}{, MAC at #}{, limit at #}"
 unfoldable pub sdmForm : List ℕ
@@ -65,7 +65,7 @@ sdmForm =
 unfoldable pub mirrorsOf : Reading → List ℕ
 mirrorsOf r =
     formOf true sdmForm
-    (r .settings .head .meta ∷ r .settings .head .file ∷ r .settings .head .ret ∷ r .uid .start ∷ r .counter .start ∷ r .picc .start
+    (r .settings .head .«sdm_meta_read» ∷ r .settings .head .«sdm_file_read» ∷ r .settings .head .«sdm_ctr_ret» ∷ r .uid .start ∷ r .counter .start ∷ r .picc .start
     ∷ r .enc .start ∷ r .settings .places .input ∷ r .mac .start ∷ r .settings .places .limit ∷ [])
     (r .uid .present ∷ r .counter .present ∷ r .picc .present ∷ and (r .picc .present) (r .settings .head .uid)
     ∷ and (r .picc .present) (r .settings .head .counter) ∷ r .enc .present ∷ r .mac .present ∷ r .mac .present

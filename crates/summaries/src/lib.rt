@@ -53,7 +53,7 @@ fn rights(number: u8, h: Head, room: &mut [u8], n: usize) -> usize
             number as u64,
             h.read as u64,
             h.write as u64,
-            h.both as u64,
+            h.read_write as u64,
             h.change as u64,
         ],
         &[h.mode == 0, h.mode == 1, h.mode == 3],
@@ -74,9 +74,9 @@ fn mirrors(on: bool, r: Reading, room: &mut [u8], n: usize) -> usize
         return append_form(
             b"\n          SDM on, MetaRead %, FileRead %, CtrRet %{, UID at #}{, counter at #}{, PICCData at #}{ (UID)}{ (counter)}{, ENC at #}{, MAC input at #}{, MAC at #}{, limit at #}",
             &[
-                h.meta as u64,
-                h.file as u64,
-                h.ret as u64,
+                h.sdm_meta_read as u64,
+                h.sdm_file_read as u64,
+                h.sdm_ctr_ret as u64,
                 r.uid.start as u64,
                 r.counter.start as u64,
                 r.picc.start as u64,

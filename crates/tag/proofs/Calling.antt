@@ -18,7 +18,8 @@ use Rattle.replies.specs.Answer.{Answer, Gives, answerOf}
 use Rattle.tag.specs.declared.Outcome.{Outcome}
 use Rattle.tag.specs.declared.Outcome.the-variants.{Replied, SmallRoom, WrongRandom, Unsound}
 use Rattle.tag.specs.declared.Called.{Called}
-use Rattle.tag.specs.Call.{withStatus, answered, replyOf, replied, unanswered, outcomeOf, refusalNumber, refusalOf, byOutcome, roomBy, Laid, Calls, Replies}
+use Rattle.tag.specs.Way.{answered}
+use Rattle.tag.specs.Call.{withStatus, replyOf, replied, unanswered, outcomeOf, refusalNumber, refusalOf, byOutcome, roomBy, Laid, Calls, Replies}
 
 -- ---- the reply
 -- data and status bytes laid one behind the other, over the room

@@ -1,25 +1,18 @@
--- A call: refusals 1 to 3, step 1, and the reply in the room.
+-- A call: refusals 1 to 3, and the reply in the room.
 use mathlib.Core.List.{List, [], _∷_, _++_}
 use mathlib.Core.Path.{_≡_}
 use Prim.Native.Nat.{ℕ, _/_, _%_, _≤_}
 use lib.Dec.{eqb, ltb}
 use lib.ListN.{length}
-use Rattle.base.specs.Decide.{pick, or}
-use Rattle.base.specs.Bytes.{byteAt, over}
+use Rattle.base.specs.Decide.{pick}
+use Rattle.base.specs.Bytes.{over}
 use Rattle.state.specs.declared.Tag.{Tag}
 use Rattle.soundness.specs.Sound.{soundTag}
-use Rattle.replies.specs.Answer.{Answer, refusal}
-use Rattle.wrapped.specs.Wrapped.{wrapped}
-use Rattle.inter_industry.specs.InterIndustry.{interIndustry}
+use Rattle.replies.specs.Answer.{Answer}
+use Rattle.tag.specs.Way.{answered}
 use Rattle.tag.specs.declared.Outcome.{Outcome}
 use Rattle.tag.specs.declared.Outcome.the-variants.{Replied, SmallRoom, WrongRandom, Unsound}
 use Rattle.tag.specs.declared.Called.{Called}
-
--- step 1: under 4 or over 261 bytes 6700; CLA not 00 or 90 6E00
-unfoldable pub answered : Tag → List ℕ → List ℕ → Answer
-answered t c random =
-    pick (or (ltb (length c) 4) (ltb 261 (length c))) (refusal t 0x6700)
-    (pick (eqb (byteAt c 0) 0x90) (wrapped t c random) (pick (eqb (byteAt c 0) 0) (interIndustry t c random) (refusal t 0x6E00)))
 
 -- data and two status bytes
 unfoldable pub withStatus : List ℕ → ℕ → List ℕ

@@ -1,22 +1,133 @@
-// Step 1, and the class.
+// The way of a command: steps 1 to 5, access, step 7, and then the command itself.
+ghost use mathlib.Core.Path.{_≡_};
+ghost use Prim.Native.Nat.{_≤_};
+ghost use lib.Dec.{eqb};
+ghost use lib.ListN.{length};
+ghost use Rattle.base.specs.Decide.{pick};
+ghost use Rattle.base.specs.Status.{authenticationError, isoSecurity};
+ghost use Rattle.state.specs.State.{readingIn};
+ghost use Rattle.soundness.specs.Sound.{judgedTag};
+ghost use Rattle.access.specs.Access.{grantStatus};
+ghost use Rattle.order.specs.Commands.{dataOf};
 ghost use Rattle.replies.specs.Answer.{Gives};
-ghost use Rattle.tag.specs.Call.{answered};
+ghost use Rattle.tag.specs.Way.{usedUp, fromStep7, onGrant, fromStep6, commanded, answered};
+use access::Decision;
+use access::Grant;
+use order::Command;
+use order::Name;
+use order::Ordered;
 use replies::Done;
+use soundness::Judged;
+use spans::Reading;
 use state::Tag;
 
-pub fn answered(tag: Tag, c: &[u8], random: [u8; 20]) -> Done
+// In session with CmdCtr used up.
+fn used_up(on: bool, counter: u16) -> bool
+    ensures { λ r. ⌜ r ≡ usedUp on counter ⌝ }
+{
+    if on {
+        return counter == 65535;
+    }
+    false
+}
+
+// One status for a wrapped command, one for CLA 00.
+fn by_class(class: u8, wrapped: u16, iso: u16) -> u16
+    ensures { λ r. ⌜ r ≡ pick (eqb class 0x90) wrapped iso ⌝ }
+{
+    if class == 0x90 { wrapped } else { iso }
+}
+
+// Steps 7 to 9 of a command that is granted.
+fn from_step_7(tag: Tag, k: Command, r: Reading, d: Decision, x: &[u8], random: [u8; 20]) -> Done
+    ensures { λ y. ⌜ Gives (fromStep7 tag k r d (now (x .entry)) random) y ⌝ }
+{
+    if used_up(tag.live.on, tag.live.counter) {
+        return replies::refuse(tag, by_class(k.class, 0x91AE, 0x6982));
+    }
+    if k.class == 0x90 {
+        return wrapped::wrapped(tag, k, r, d, x, random);
+    }
+    binaries::binary(tag, k, r, d, x, random)
+}
+
+// Behind the decision.
+fn on_grant(
+    g: Grant,
+    tag: Tag,
+    k: Command,
+    r: Reading,
+    d: Decision,
+    x: &[u8],
+    random: [u8; 20],
+) -> Done
+    ensures { λ y. ⌜ Gives (onGrant g tag k r d (now (x .entry)) random) y ⌝ }
+{
+    match g {
+        Grant::Never => replies::refuse(tag, by_class(k.class, 0x919D, 0x6982)),
+        Grant::Denied => replies::refuse(tag, by_class(k.class, 0x91AE, 0x6982)),
+        Grant::ByKey => from_step_7(tag, k, r, d, x, random),
+        Grant::ByTap => from_step_7(tag, k, r, d, x, random),
+        Grant::Free => from_step_7(tag, k, r, d, x, random),
+        Grant::Unasked => from_step_7(tag, k, r, d, x, random),
+    }
+}
+
+// Step 6: access, asked once.
+fn from_step_6(tag: Tag, k: Command, r: Reading, x: &[u8], random: [u8; 20]) -> Done
+    ensures { λ y. ⌜ Gives (fromStep6 tag k r (now (x .entry)) random) y ⌝ }
+{
+    let name = k.name;
+    let d = access::decide(name, tag.live, r.settings.head);
+    let g = d.grant;
+    on_grant(g, tag, k, r, d, x, random)
+}
+
+// A command behind steps 1 to 5; r are the settings of its file, x is its data.
+fn commanded(name: Name, tag: Tag, k: Command, r: Reading, x: &[u8], random: [u8; 20]) -> Done
+    ensures { λ y. ⌜ Gives (commanded name tag k r (now (x .entry)) random) y ⌝ }
+{
+    match name {
+        Name::AuthenticateFirst => auth::first(tag, x, random),
+        Name::AuthenticateNonFirst => auth::next(tag, x, random),
+        Name::PartTwo => part_two::second(tag, x, random),
+        Name::IsoSelectFile => selects::select(tag, k.p1, k.p2, x),
+        _ => from_step_6(tag, k, r, x, random),
+    }
+}
+
+// The same, its data among its bytes.
+fn on_bytes(tag: Tag, k: Command, r: Reading, c: &[u8], random: [u8; 20]) -> Done
+    requires { ⌜ (k .start ≤ k .end) × (k .end ≤ length (now c)) ⌝ }
+    ensures { λ y. ⌜ Gives (commanded (k .name) tag k r (dataOf k (now (c .entry))) random) y ⌝ }
+{
+    let name = k.name;
+    let a = k.start;
+    let e = k.end;
+    commanded(name, tag, k, r, &c[a..e], random)
+}
+
+// What the settings of file n mean, as judging read them; a number that no file has is asked of the state.
+fn reading_for(tag: Tag, j: Judged, n: u8) -> Reading
+    requires { ⌜ j ≡ judgedTag tag ⌝ }
+    ensures { λ r. ⌜ r ≡ readingIn (tag .files) n ⌝ }
+{
+    match n {
+        1 => j.first,
+        2 => j.second,
+        3 => j.third,
+        _ => state::reading_in(tag.files, n),
+    }
+}
+
+// The answer to a command, of a tag that was judged so.
+pub fn answered(tag: Tag, j: Judged, c: &[u8], random: [u8; 20]) -> Done
+    requires { ⌜ j ≡ judgedTag tag ⌝ }
     ensures { λ r. ⌜ Gives (answered tag (now (c .entry)) random) r ⌝ }
 {
-    if c.len() < 4 {
-        return replies::refuse(tag, 0x6700);
-    }
-    if 261 < c.len() {
-        return replies::refuse(tag, 0x6700);
-    }
-    let class = base::at(c, 0);
-    match class {
-        0x90 => wrapped::wrapped(tag, c, random),
-        0x00 => inter_industry::inter_industry(tag, c, random),
-        _ => replies::refuse(tag, 0x6E00),
+    let o = order::command_in(c, tag.pending.on, tag.place.application, tag.place.file);
+    match o {
+        Ordered::Is(k) => on_bytes(tag, k, reading_for(tag, j, k.file), c, random),
+        Ordered::Refused(s) => replies::refuse(tag, s),
     }
 }

@@ -2,10 +2,13 @@
 ghost use mathlib.Core.Path.{_≡_};
 ghost use Prim.Native.Nat.{_≤_};
 ghost use lib.ListN.{length, take};
-ghost use Rattle.tag.specs.Call.{withStatus, answered, unanswered, Laid, Replies, Calls};
+ghost use Rattle.soundness.specs.Sound.{judgedTag};
+ghost use Rattle.tag.specs.Way.{answered};
+ghost use Rattle.tag.specs.Call.{withStatus, unanswered, Laid, Replies, Calls};
 use crate::Called;
 use crate::Outcome;
 use crate::answering::answered;
+use soundness::Judged;
 use state::Tag;
 
 fn unanswered(outcome: Outcome, tag: Tag) -> Called
@@ -29,14 +32,15 @@ fn lay(bytes: [u8; 258], n: usize, status: u16, room: &mut [u8]) -> usize
     n + 2
 }
 
-// The answer to a sound tag's command, with 20 random bytes.
-fn reply(tag: Tag, command: &[u8], random: &[u8], room: &mut [u8]) -> Called
+// The answer to a sound tag's command, with 20 random bytes; j is what judging the tag gave.
+fn reply(tag: Tag, j: Judged, command: &[u8], random: &[u8], room: &mut [u8]) -> Called
+    requires { ⌜ j ≡ judgedTag tag ⌝ }
     requires { ⌜ (length (now random) ≡ 20) × (258 ≤ length (now room)) ⌝ }
     ensures { λ r. ⌜ Replies (answered tag (now (command .entry)) (now (random .entry))) (now (room .entry)) r (now (room .exit)) ⌝ }
 {
     let mut r = [0u8; 20];
     base::put(random, &mut r, 0);
-    let d = answered(tag, command, r);
+    let d = answered(tag, j, command, r);
     let bytes = d.bytes;
     let n = lay(bytes, d.length, d.status, room);
     let t = d.tag;
@@ -57,8 +61,9 @@ pub fn call(tag: Tag, command: &[u8], random: &[u8], room: &mut [u8]) -> Called
     if random.len() != 20 {
         return unanswered(Outcome::WrongRandom, tag);
     }
-    if soundness::sound(tag) {
-        return reply(tag, command, random, room);
+    let j = soundness::judge_tag(tag);
+    if j.sound {
+        return reply(tag, j, command, random, room);
     }
     unanswered(Outcome::Unsound, tag)
 }

@@ -8,6 +8,7 @@ use lib.Dec.{eqb}
 use lib.ListN.{length, take}
 use borrow.Author.Tests.{eq-eqb, ne-eqb}
 use Rattle.base.specs.Decide.{pick}
+use Rattle.base.specs.Status.{operationOk, isoNormal}
 use Rattle.spans.specs.declared.Reading.{Reading}
 use Rattle.mirror.specs.declared.Mirror.{Mirror}
 use Rattle.mirror.specs.declared.Laid.{Laid}
@@ -20,7 +21,7 @@ use Rattle.replies.specs.Answer.{given, refusal}
 use Rattle.file_parts.specs.Filing.{partOf}
 use Rattle.file_parts.proofs.Parts.{part-given}
 use Rattle.taps.specs.declared.Shown.{Shown}
-use Rattle.taps.specs.Taps.{goesOn, startStatus, counted, mirrorFor, notShown, showing, shown, tapRead}
+use Rattle.taps.specs.Taps.{goesOn, startStatus, counted, mirrorFor, notShown, showing, shown, tapStatus, shownPart}
 use Rattle.taps.proofs.Going.{pick-true, pick-false}
 
 -- a status other than 0 refuses with it
@@ -70,14 +71,15 @@ module _ (t : Tag) (r : Reading) (iso : Bool) (random : List ℕ) (going : Bool)
     shows-outside e = laid-out (t .tap) iso _ l _ laid e ∙ started-by status _ _ _ told z
 
 -- ---- what a tap gives
-module _ (t : Tag) (s : Shown) (accepting refusing at n : ℕ) where
-  pub reads-shown : (p : Excerpt) → s .status ≡ 0 → length (s .bytes) ≡ 256 → p ≡ partOf (s .bytes) at n
-      → given (tapped t (s .tap)) accepting (take (min (p .length) 256) (p .bytes)) ≡ tapRead t s accepting refusing at n
-  unfolding tapRead
-  reads-shown p e l h =
-      ap (given (tapped t (s .tap)) accepting) (part-given (s .bytes) at n p (omega arith) h)
+module _ (t : Tag) (s : Shown) (iso : Bool) (at n : ℕ) where
+  pub reads-shown : (accepting : ℕ) (p : Excerpt) → accepting ≡ pick iso isoNormal operationOk → s .status ≡ 0 → length (s .bytes) ≡ 256
+      → p ≡ partOf (s .bytes) at n
+      → given (tapped t (s .tap)) accepting (take (min (p .length) 256) (p .bytes)) ≡ shownPart t s iso at n
+  unfolding shownPart
+  reads-shown accepting p a e l h =
+      ap₂ (given (tapped t (s .tap))) a (part-given (s .bytes) at n p (omega arith) h)
       ∙ pick-true (eqb (s .status) 0) _ _ (eq-eqb (s .status) 0 e)
 
-  pub reads-refused : (s .status ≡ 0 → ⊥) → refusal t refusing ≡ tapRead t s accepting refusing at n
-  unfolding tapRead
-  reads-refused e = pick-false (eqb (s .status) 0) _ _ (ne-eqb (s .status) 0 e)
+  pub reads-refused : (refusing : ℕ) → refusing ≡ tapStatus iso (s .status) → (s .status ≡ 0 → ⊥) → refusal t refusing ≡ shownPart t s iso at n
+  unfolding shownPart
+  reads-refused refusing a e = ap (refusal t) a ∙ pick-false (eqb (s .status) 0) _ _ (ne-eqb (s .status) 0 e)

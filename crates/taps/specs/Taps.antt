@@ -5,6 +5,7 @@ use Prim.Native.Nat.{ℕ, _+_}
 use lib.Dec.{eqb, leb, ltb}
 use lib.ListN.{take, drop, replicate}
 use Rattle.base.specs.Decide.{pick, and}
+use Rattle.base.specs.Status.{operationOk, integrityError, permissionDenied, parameterError, isoNormal, isoSecurity, isoWrongP1P2}
 use Rattle.fields.specs.declared.Head.{Head}
 use Rattle.spans.specs.declared.Reading.{Reading}
 use Rattle.mirror.specs.declared.Mirror.{Mirror}
@@ -16,10 +17,6 @@ use Rattle.state.specs.State.{fileOf, keyIn, tapped}
 use Rattle.replies.specs.Answer.{Answer, given, refusal}
 use Rattle.taps.specs.declared.Shown.{Shown}
 
--- an unauthenticated read of an SDM-enabled file
-abbrev pub isTap : Bool → Bool → Bool
-isTap sdm live = and sdm (not live)
-
 -- the last command was such an accepted read, by the same command
 unfoldable pub goesOn : Tapping → Bool → Bool
 goesOn t iso = and (t .on) (pick iso (t .iso) (not (t .iso)))
@@ -27,7 +24,7 @@ goesOn t iso = and (t .on) (pick iso (t .iso) (not (t .iso)))
 -- limit on and counter at or above it 919D; counter 16,777,215: 911E; 0 where the tap goes on or starts
 unfoldable pub startStatus : Bool → ℕ → Bool → ℕ → ℕ
 startStatus going counter limited limit =
-    pick going 0 (pick (and limited (leb limit counter)) 0x919D (pick (leb 16777215 counter) 0x911E 0))
+    pick going 0 (pick (and limited (leb limit counter)) permissionDenied (pick (leb 16777215 counter) integrityError 0))
 
 -- a start adds one; `startStatus` refuses one at 16,777,215, so no state that the tag reaches gets here with it, and it stays
 unfoldable pub counted : Bool → ℕ → ℕ
@@ -38,8 +35,8 @@ unfoldable pub mirrorFor : Tag → Head → ℕ → List ℕ → Mirror
 mirrorFor t h counter random =
     record {
       tap = record { uid = t .uid; counter = counter; names = h .uid; counts = h .counter };
-      «meta_key» = keyIn (t .secrets .keys) (h .meta);
-      «file_key» = keyIn (t .secrets .keys) (h .file);
+      «meta_key» = keyIn (t .secrets .keys) (h .«sdm_meta_read»);
+      «file_key» = keyIn (t .secrets .keys) (h .«sdm_file_read»);
       random = random;
     }
 
@@ -50,7 +47,7 @@ notShown s t = record { status = s; tap = t; bytes = replicate 256 0 }
 -- a span that does not end inside the file: no sound state gets here, and 919E stands in
 abbrev pub showing : Tapping → Bool → ℕ → Laid → Shown
 showing t iso counter l =
-    pick (l .inside) (record { status = 0; tap = record { on = true; iso = iso; counter = counter }; bytes = l .bytes }) (notShown 0x919E t)
+    pick (l .inside) (record { status = 0; tap = record { on = true; iso = iso; counter = counter }; bytes = l .bytes }) (notShown parameterError t)
 
 unfoldable pub shown : Tag → Reading → Bool → List ℕ → Shown
 shown t r iso random =
@@ -61,7 +58,16 @@ shown t r iso random =
     (showing (t .tap) iso counter (laidOf (fileOf (t .files) 2) r (mirrorFor t (r .settings .head) counter random)))
     (notShown status (t .tap))
 
--- a tap gives the mirrored file's part under the accepting status, or is refused
-unfoldable pub tapRead : Tag → Shown → ℕ → ℕ → ℕ → ℕ → Answer
-tapRead t s accepting refusing at count =
-    pick (eqb (s .status) 0) (given (tapped t (s .tap)) accepting (take count (drop at (s .bytes)))) (refusal t refusing)
+-- its status; ISO: a tap that can't start is 6982, and a span outside the file, to which no sound state gets, 6A86
+unfoldable pub tapStatus : Bool → ℕ → ℕ
+tapStatus iso s = pick iso (pick (eqb s parameterError) isoWrongP1P2 isoSecurity) s
+
+-- a tap gives the part of the mirrored file that is asked for, or is refused
+unfoldable pub shownPart : Tag → Shown → Bool → ℕ → ℕ → Answer
+shownPart t s iso at count =
+    pick (eqb (s .status) 0)
+    (given (tapped t (s .tap)) (pick iso isoNormal operationOk) (take count (drop at (s .bytes))))
+    (refusal t (tapStatus iso (s .status)))
+
+unfoldable pub tapRead : Tag → Reading → Bool → ℕ → ℕ → List ℕ → Answer
+tapRead t r iso at count random = shownPart t (shown t r iso random) iso at count

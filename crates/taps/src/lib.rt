@@ -1,11 +1,9 @@
-// Taps (9.3): whether a read is one, what it shows, and what it gives.
+// Taps (9.3): where one starts and goes on, what it shows, and what it gives.
 
 mod taps;
 
 use state::Tapping;
-pub use taps::is_tap;
 pub use taps::read_tap;
-pub use taps::show;
 
 // A tap: 0 or the status that refuses it, the tap state then, and file 2 as it is shown.
 pub struct Shown {

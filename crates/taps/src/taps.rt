@@ -1,8 +1,10 @@
 // A tap (9.3): where it starts, the limit and the end of the counter, and the mirrored file.
 ghost use mathlib.Core.Path.{_≡_};
+ghost use Rattle.base.specs.Decide.{pick};
+ghost use Rattle.base.specs.Status.{operationOk, isoNormal};
 ghost use Rattle.state.specs.State.{fileOf};
 ghost use Rattle.replies.specs.Answer.{Gives};
-ghost use Rattle.taps.specs.Taps.{isTap, goesOn, startStatus, counted, mirrorFor, notShown, shown, tapRead};
+ghost use Rattle.taps.specs.Taps.{goesOn, startStatus, counted, mirrorFor, notShown, shown, tapStatus, shownPart, tapRead};
 use crate::Shown;
 use fields::Head;
 use mirror::Mirror;
@@ -12,16 +14,6 @@ use spans::Reading;
 use state::Files;
 use state::Tag;
 use state::Tapping;
-
-// A read is a tap where SDM is on and there is no session.
-pub fn is_tap(sdm: bool, live: bool) -> bool
-    ensures { λ r. ⌜ r ≡ isTap sdm live ⌝ }
-{
-    if sdm {
-        return !live;
-    }
-    false
-}
 
 // Whether a tap by the same read command runs already.
 fn goes_on(t: Tapping, iso: bool) -> bool
@@ -80,8 +72,8 @@ fn mirror_for(tag: Tag, h: Head, counter: u32, random: [u8; 20]) -> Mirror
             names: h.uid,
             counts: h.counter,
         },
-        meta_key: state::key_of(keys, h.meta),
-        file_key: state::key_of(keys, h.file),
+        meta_key: state::key_of(keys, h.sdm_meta_read),
+        file_key: state::key_of(keys, h.sdm_file_read),
         random,
     }
 }
@@ -108,7 +100,7 @@ fn no_show(status: u16, t: Tapping) -> Shown
 }
 
 // What a read of file 2 without a session shows.
-pub fn show(tag: Tag, r: Reading, iso: bool, random: [u8; 20]) -> Shown
+fn show(tag: Tag, r: Reading, iso: bool, random: [u8; 20]) -> Shown
     ensures { λ s. ⌜ s ≡ shown tag r iso random ⌝ }
 {
     let now = tag.tap;
@@ -135,9 +127,29 @@ pub fn show(tag: Tag, r: Reading, iso: bool, random: [u8; 20]) -> Shown
     no_show(0x919E, now)
 }
 
-// What a tap gives: the mirrored file's part under the accepting status, or the refusal.
-pub fn read_tap(tag: Tag, s: Shown, accepting: u16, refusing: u16, at: usize, count: usize) -> Done
-    ensures { λ r. ⌜ Gives (tapRead tag s accepting refusing at count) r ⌝ }
+// A tap's status, as an ISO one where it is.
+fn tap_status(iso: bool, s: u16) -> u16
+    ensures { λ r. ⌜ r ≡ tapStatus iso s ⌝ }
+{
+    if iso {
+        if s == 0x919E {
+            return 0x6A86;
+        }
+        return 0x6982;
+    }
+    s
+}
+
+// The status that accepts.
+fn accepting(iso: bool) -> u16
+    ensures { λ r. ⌜ r ≡ pick iso isoNormal operationOk ⌝ }
+{
+    if iso { 0x9000 } else { 0x9100 }
+}
+
+// What a tap gives: the part of the mirrored file that is asked for, or the refusal.
+fn give_shown(tag: Tag, s: Shown, iso: bool, at: usize, count: usize) -> Done
+    ensures { λ r. ⌜ Gives (shownPart tag s iso at count) r ⌝ }
 {
     if s.status == 0 {
         let mut t = tag;
@@ -146,7 +158,14 @@ pub fn read_tap(tag: Tag, s: Shown, accepting: u16, refusing: u16, at: usize, co
         t.tap = now;
         let p = file_parts::cut(&bytes, at, count);
         let shown = p.bytes;
-        return replies::give(t, accepting, shown, p.length);
+        return replies::give(t, accepting(iso), shown, p.length);
     }
-    replies::refuse(tag, refusing)
+    replies::refuse(tag, tap_status(iso, s.status))
+}
+
+// A read of file 2 that is a tap, by ISOReadBinary or by ReadData; r are its settings.
+pub fn read_tap(tag: Tag, r: Reading, iso: bool, at: usize, count: usize, random: [u8; 20]) -> Done
+    ensures { λ d. ⌜ Gives (tapRead tag r iso at count random) d ⌝ }
+{
+    give_shown(tag, show(tag, r, iso, random), iso, at, count)
 }

@@ -11,7 +11,8 @@ use Rattle.state.specs.declared.Tag.{Tag}
 use Rattle.first_lines.specs.Said.{said}
 use Rattle.plans.specs.declared.Meaning.{Meaning}
 use Rattle.plans.specs.declared.Meaning.the-variants.{Blank, Drawn, Given, Bad}
-use Rattle.tag.specs.Call.{answered, outcomeOf, byOutcome, roomBy}
+use Rattle.tag.specs.Way.{answered}
+use Rattle.tag.specs.Call.{outcomeOf, byOutcome, roomBy}
 use Rattle.tag.specs.declared.Called.{Called}
 use Rattle.verdict.specs.Replies.{statusIn, refusing, differing}
 use Rattle.tallies.specs.declared.Went.{Went}

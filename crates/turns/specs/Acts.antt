@@ -6,7 +6,8 @@ use lib.Dec.{eqb}
 use lib.ListN.{length, take, replicate}
 use Rattle.base.specs.Decide.{pick}
 use Rattle.state.specs.declared.Tag.{Tag}
-use Rattle.tag.specs.Call.{answered, outcomeOf, byOutcome, roomBy}
+use Rattle.tag.specs.Way.{answered}
+use Rattle.tag.specs.Call.{outcomeOf, byOutcome, roomBy}
 use Rattle.tag.specs.declared.Called.{Called}
 use Rattle.plans.specs.declared.Meaning.{Meaning}
 use Rattle.plans.specs.declared.Meaning.the-variants.{Blank, Drawn, Given, Bad}

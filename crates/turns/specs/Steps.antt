@@ -7,7 +7,8 @@ use lib.Dec.{ltb}
 use lib.ListN.{length, take, replicate}
 use Rattle.base.specs.Decide.{pick}
 use Rattle.state.specs.declared.Tag.{Tag}
-use Rattle.tag.specs.Call.{answered, outcomeOf, byOutcome, roomBy}
+use Rattle.tag.specs.Way.{answered}
+use Rattle.tag.specs.Call.{outcomeOf, byOutcome, roomBy}
 use Rattle.first_lines.specs.Said.{said}
 use Rattle.plans.specs.Plan.{lineOf, lineCommand, lineRandom, lineExpected}
 use Rattle.plans.specs.declared.Line.{Line}

@@ -6,6 +6,7 @@ use lib.Dec.{eqb, ltb}
 use lib.ListN.{length, take, drop}
 use Rattle.base.specs.Decide.{pick}
 use Rattle.base.specs.Bytes.{byteAt, same}
+use Rattle.base.specs.Status.{operationOk, additionalFrame, isoNormal}
 
 -- the status, high byte first; 0 where there are no two bytes
 unfoldable pub statusIn : List ℕ → ℕ
@@ -13,7 +14,7 @@ statusIn r = pick (ltb (length r) 2) 0 (byteAt r (length r - 2) * 256 + byteAt r
 
 -- every status refuses but 9000, 9100 and 91AF
 unfoldable pub refusing : ℕ → Bool
-refusing s = pick (eqb s 0x9000) false (pick (eqb s 0x9100) false (pick (eqb s 0x91AF) false true))
+refusing s = pick (eqb s isoNormal) false (pick (eqb s operationOk) false (pick (eqb s additionalFrame) false true))
 
 -- what is expected are the first bytes of the reply, or its two status bytes; else the reply differs
 unfoldable pub differing : List ℕ → List ℕ → Bool

@@ -42,11 +42,11 @@ pub absent-rights : (h : Head) → sdmAbsent h ≡ true → sdmRights h ≡ true
 unfolding sdmAbsent sdmRights condition three-rights
 absent-rights h e =
     let n : Bool = and (not (h .uid)) (and (not (h .counter)) (and (not (h .limit)) (not (h .enc)))) in
-    let a : Both (eqb (h .meta) 0) (and (eqb (h .file) 0) (eqb (h .ret) 0)) = both (and-right n _ e) in
-    let b : Both (eqb (h .file) 0) (eqb (h .ret) 0) = both (a .right) in
-    ap (λ x. three-rights x (h .file) (h .ret)) (eqb-true (h .meta) 0 (a .left))
-    ∙ ap (λ x. three-rights 0 x (h .ret)) (eqb-true (h .file) 0 (b .left))
-    ∙ ap (λ x. three-rights 0 0 x) (eqb-true (h .ret) 0 (b .right))
+    let a : Both (eqb (h .«sdm_meta_read») 0) (and (eqb (h .«sdm_file_read») 0) (eqb (h .«sdm_ctr_ret») 0)) = both (and-right n _ e) in
+    let b : Both (eqb (h .«sdm_file_read») 0) (eqb (h .«sdm_ctr_ret») 0) = both (a .right) in
+    ap (λ x. three-rights x (h .«sdm_file_read») (h .«sdm_ctr_ret»)) (eqb-true (h .«sdm_meta_read») 0 (a .left))
+    ∙ ap (λ x. three-rights 0 x (h .«sdm_ctr_ret»)) (eqb-true (h .«sdm_file_read») 0 (b .left))
+    ∙ ap (λ x. three-rights 0 0 x) (eqb-true (h .«sdm_ctr_ret») 0 (b .right))
 
 part-rights : (t : Bool) (r : Settings) → pick t (sdmMeets r) (sdmAbsent (r .head)) ≡ true → sdmRights (r .head) ≡ true
 unfolding sdmMeets

@@ -29,7 +29,7 @@ mode-small m e = ⊎-elim (λ h. omega (arith, leb-true m 1 h)) (λ h. omega (ar
 pub record Four (h : Head) : Type 0 where
   pub read : h .read ≤ 15
   pub write : h .write ≤ 15
-  pub both : h .both ≤ 15
+  pub both : h .«read_write» ≤ 15
   pub change : h .change ≤ 15
 
 pub rights-small : (h : Head) → rights h ≡ true → Four h
@@ -41,20 +41,20 @@ rights-small h e =
       read = condition-small _ (and-left _ _ e);
       write = condition-small _ (and-left _ _ e₁);
       both = condition-small _ (and-left _ _ e₂);
-      change = condition-small _ (and-right (condition (h .both)) _ e₂);
+      change = condition-small _ (and-right (condition (h .«read_write»)) _ e₂);
     }
 
 pub record Three (h : Head) : Type 0 where
-  pub meta : h .meta ≤ 15
-  pub file : h .file ≤ 15
-  pub ret : h .ret ≤ 15
+  pub meta : h .«sdm_meta_read» ≤ 15
+  pub file : h .«sdm_file_read» ≤ 15
+  pub ret : h .«sdm_ctr_ret» ≤ 15
 
 pub sdm-small : (h : Head) → sdmRights h ≡ true → Three h
 unfolding sdmRights
 sdm-small h e =
-    let e₁ = and-right (condition (h .meta)) _ e in
+    let e₁ = and-right (condition (h .«sdm_meta_read»)) _ e in
     record {
       meta = condition-small _ (and-left _ _ e);
       file = condition-small _ (and-left _ _ (and-left _ _ e₁));
-      ret = condition-small _ (and-right (and (condition (h .file)) (not (eqb (h .file) 14))) _ e₁);
+      ret = condition-small _ (and-right (and (condition (h .«sdm_file_read»)) (not (eqb (h .«sdm_file_read») 14))) _ e₁);
     }

@@ -84,12 +84,16 @@ fn lay_string(r: Settings, room: &mut [u8]) -> usize
     let h = r.head;
     let front = [
         option_byte(h),
-        pair(h.both, h.change),
+        pair(h.read_write, h.change),
         pair(h.read, h.write),
     ];
     base::put(&front, room, 0);
     if h.sdm {
-        let sdm = [sdm_options_byte(h), 240 + h.ret, pair(h.meta, h.file)];
+        let sdm = [
+            sdm_options_byte(h),
+            240 + h.sdm_ctr_ret,
+            pair(h.sdm_meta_read, h.sdm_file_read),
+        ];
         base::put(&sdm, room, 3);
         return lay_fields(fields::present_fields(h), fields::in_order(r.places), room);
     }

@@ -3,7 +3,7 @@ use native.Mathlib.Omega.{arith}
 use lib.ListN.{length}
 use Rattle.replies.proofs.Equal.{gives-as}
 use Rattle.auth.specs.Parts.{begun}
-use Rattle.auth.proofs.Replies.{room-given}
+use Rattle.replies.proofs.Given.{room-given}
 use borrow.Author.Needs.{needs}
 use Rattle.auth.proofs.begin.Statement.{statement}
 use Rattle.auth.proofs.begin.Tie as tie
@@ -20,11 +20,11 @@ no-live-requires c κs = search needs
 talking-requires : tie.Need-talking-requires
 talking-requires c κs = search needs
 
-slice-aggregate-reply : tie.Need-slice-aggregate-reply
-slice-aggregate-reply c = search needs
+slice-aggregate-give-text : tie.Need-slice-aggregate-give-text
+slice-aggregate-give-text c = search needs
 
-reply-requires : tie.Need-reply-requires
-reply-requires c κs = search needs
+give-text-requires : tie.Need-give-text-requires
+give-text-requires c κs = search needs
 
 returns : tie.Need-returns
 unfolding begun
@@ -36,7 +36,7 @@ returns c =
       ← c .before .before .before .before .part-one .ensures,
       ← c .before .before .before .no-live .ensures,
       ← c .before .before .talking .ensures,
-    ) (gives-as (c .reply .ensures) (room-given (c .before .before .talking .result) 0x91AF e (omega arith)))
+    ) (gives-as (c .give-text .ensures) (room-given (c .before .before .talking .result) 0x91AF e (omega arith)))
 
 pub begin-spec : {M : Type 1} → statement M
 begin-spec =
@@ -46,6 +46,6 @@ begin-spec =
     part-one-requires
     no-live-requires
     talking-requires
-    slice-aggregate-reply
-    reply-requires
+    slice-aggregate-give-text
+    give-text-requires
     returns)

@@ -1,7 +1,7 @@
 -- `change_settings::change_settings` meets its contract.
 use mathlib.Core.Path.{sym, _∙_}
 use borrow.Author.Needs.{needs}
-use Rattle.soundness.proofs.Normals.{laid-normal}
+use Rattle.normalising.proofs.Normals.{laid-normal}
 use Rattle.change_settings.proofs.Changes.{good-changes, file-changes, bad-changes, room-enough}
 use Rattle.change_settings.proofs.change_settings.Statement.{statement}
 use Rattle.change_settings.proofs.change_settings.Tie as tie
@@ -45,6 +45,9 @@ cast-with-rules c = search needs
 with-rules-requires : tie.Need-with-rules-requires
 with-rules-requires c κs = search needs
 
+sdm-on-requires : tie.Need-sdm-on-requires
+sdm-on-requires c κs = search needs
+
 restring-requires : tie.Need-restring-requires
 restring-requires c κs = search needs
 
@@ -55,25 +58,26 @@ returns : tie.Need-returns
 returns c =
     let b = c .before .before .before in
     let e = sym (b .before .before .before .normalise .ensures .0) ∙ b .a .given .1 in
-    file-changes _ _ _ _ _ (b .a .given .0 .0) _ _ e (c .before .file-fault-word .ensures) (c .refuse .ensures)
+    file-changes _ _ _ _ _ _ (b .a .given .0 .0) _ _ e (c .before .file-fault-word .ensures) (c .refuse .ensures)
 
 returns-2 : tie.Need-returns-2
 returns-2 c =
     let b = c .before .before .before in
     let e = sym (b .before .before .before .normalise .ensures .0) ∙ b .a2 .given .1 in
-    bad-changes _ _ _ _ _ (b .a2 .given .0 .0) _ _ e (c .before .status-word .ensures) (c .refuse2 .ensures)
+    bad-changes _ _ _ _ _ _ (b .a2 .given .0 .0) _ _ e (c .before .status-word .ensures) (c .refuse2 .ensures)
 
 returns-3 : tie.Need-returns-3
 returns-3 c = absurd (room-enough _ _ (sym (c .before .before .before .before .normalise .ensures .0) ∙ c .before .enum-told .given .1))
 
 returns-4 : tie.Need-returns-4
 returns-4 c =
-    let b = c .before .before .before .before in
+    let b = c .before .before .before .before .before in
     let n = b .before .before .before .normalise .ensures in
     let k = b .a3 .given .0 .0 in
-    good-changes _ _ _ _ _ k _ _ _
+    good-changes _ _ _ _ _ _ k _ _ _ _
     (laid-normal _ _ _ _ k (sym (n .0) ∙ b .a3 .given .1) (n .1))
-    (c .before .before .with-rules .ensures)
+    (c .before .before .before .with-rules .ensures)
+    (c .before .before .sdm-on .ensures)
     (c .before .restring .ensures)
     (c .accept .ensures)
 
@@ -94,6 +98,7 @@ change-settings-spec =
     enum-known-a-3
     cast-with-rules
     with-rules-requires
+    sdm-on-requires
     restring-requires
     accept-requires
     returns

@@ -5,20 +5,11 @@ use Rattle.contents.specs.Contents.{readData}
 use Rattle.contents.proofs.read_data.Statement.{statement}
 use Rattle.contents.proofs.read_data.Tie as tie
 
-three-at-requires : tie.Need-three-at-requires
-three-at-requires c κs = search needs
-
-three-at-requires-2 : tie.Need-three-at-requires-2
-three-at-requires-2 c κs = search needs
-
 file-size-requires : tie.Need-file-size-requires
 file-size-requires c κs = search needs
 
 range-status-requires : tie.Need-range-status-requires
 range-status-requires c κs = search needs
-
-reading-in-requires : tie.Need-reading-in-requires
-reading-in-requires c κs = search needs
 
 asked-for-requires : tie.Need-asked-for-requires
 asked-for-requires c κs = search needs
@@ -29,17 +20,11 @@ wrapped-part-requires c κs = search needs
 returns : tie.Need-returns
 unfolding readData
 returns c =
-    let c4 = c .before .before .before .before in
-    let c6 = c4 .before .before in
-    let c7 = c6 .before in
     rw (
-      ← c7 .three-at .ensures,
-      ← c6 .three-at2 .ensures,
-      ← c .before .before .before .before .before .file-size .ensures,
-      ← c4 .range-status .ensures,
-      eq-eqb (c4 .range-status .result) 0 (c .before .before .before .if1 .taken),
+      ← c .before .before .before .before .file-size .ensures,
+      ← c .before .before .before .range-status .ensures,
+      eq-eqb (c .before .before .before .range-status .result) 0 (c .before .before .if1 .taken),
       ← c .before .asked-for .ensures,
-      ← c .before .before .reading-in .ensures,
     ) (c .wrapped-part .ensures)
 
 refuse-requires : tie.Need-refuse-requires
@@ -49,8 +34,6 @@ returns-2 : tie.Need-returns-2
 unfolding readData
 returns-2 c =
     rw (
-      ← c .before .before .before .before .before .three-at .ensures,
-      ← c .before .before .before .before .three-at2 .ensures,
       ← c .before .before .before .file-size .ensures,
       ← c .before .before .range-status .ensures,
       ne-eqb (c .before .before .range-status .result) 0 (c .before .if1 .left),
@@ -60,11 +43,8 @@ pub read-data-spec : {M : Type 1} → statement M
 read-data-spec =
     tie.close
     (tie.spec
-    three-at-requires
-    three-at-requires-2
     file-size-requires
     range-status-requires
-    reading-in-requires
     asked-for-requires
     wrapped-part-requires
     returns

@@ -6,12 +6,6 @@ use Rattle.contents.specs.Contents.{writtenData}
 use Rattle.contents.proofs.write_data.Statement.{statement}
 use Rattle.contents.proofs.write_data.Tie as tie
 
-three-at-requires : tie.Need-three-at-requires
-three-at-requires c κs = search needs
-
-three-at-requires-2 : tie.Need-three-at-requires-2
-three-at-requires-2 c κs = search needs
-
 file-size-requires : tie.Need-file-size-requires
 file-size-requires c κs = search needs
 
@@ -27,10 +21,7 @@ accept-requires c κs = search needs
 returns : tie.Need-returns
 unfolding writtenData filed
 returns c =
-    let c6 = c .before .before .before .before .before .before in
     rw (
-      ← c6 .three-at .ensures,
-      ← c .before .before .before .before .before .three-at2 .ensures,
       ← c .before .before .before .before .file-size .ensures,
       ← c .before .before .before .write-status .ensures,
       eq-eqb (c .before .before .before .write-status .result) 0 (c .before .before .if1 .taken),
@@ -44,8 +35,6 @@ returns-2 : tie.Need-returns-2
 unfolding writtenData filed
 returns-2 c =
     rw (
-      ← c .before .before .before .before .before .three-at .ensures,
-      ← c .before .before .before .before .three-at2 .ensures,
       ← c .before .before .before .file-size .ensures,
       ← c .before .before .write-status .ensures,
       ne-eqb (c .before .before .write-status .result) 0 (c .before .if1 .left),
@@ -55,8 +44,6 @@ pub write-data-spec : {M : Type 1} → statement M
 write-data-spec =
     tie.close
     (tie.spec
-    three-at-requires
-    three-at-requires-2
     file-size-requires
     write-status-requires
     with-bytes-requires

@@ -2,7 +2,7 @@ use mathlib.Core.Path.{_≡_}
 use native.Mathlib.Omega.{arith}
 use lib.ListN.{length}
 use Rattle.replies.proofs.Equal.{gives-as}
-use Rattle.auth.proofs.Replies.{room-given}
+use Rattle.replies.proofs.Given.{room-given}
 use Rattle.part_two.specs.PartTwo.{enteredFirst}
 use borrow.Author.Needs.{needs}
 use Rattle.part_two.proofs.enter_first.Statement.{statement}
@@ -23,11 +23,11 @@ no-pending-requires c κs = search needs
 talking-requires : tie.Need-talking-requires
 talking-requires c κs = search needs
 
-slice-aggregate-reply : tie.Need-slice-aggregate-reply
-slice-aggregate-reply c = search needs
+slice-aggregate-give-text : tie.Need-slice-aggregate-give-text
+slice-aggregate-give-text c = search needs
 
-reply-requires : tie.Need-reply-requires
-reply-requires c κs = search needs
+give-text-requires : tie.Need-give-text-requires
+give-text-requires c κs = search needs
 
 returns : tie.Need-returns
 unfolding enteredFirst
@@ -41,7 +41,7 @@ returns c =
       ← c .before .before .before .before .before .first-reply .ensures,
       ← c .before .before .before .no-pending .ensures,
       ← c .before .before .talking .ensures,
-    ) (gives-as (c .reply .ensures) (room-given (c .before .before .talking .result) 0x9100 (r .result) (omega arith)))
+    ) (gives-as (c .give-text .ensures) (room-given (c .before .before .talking .result) 0x9100 (r .result) (omega arith)))
 
 pub enter-first-spec : {M : Type 1} → statement M
 enter-first-spec =
@@ -52,6 +52,6 @@ enter-first-spec =
     session-requires
     no-pending-requires
     talking-requires
-    slice-aggregate-reply
-    reply-requires
+    slice-aggregate-give-text
+    give-text-requires
     returns)

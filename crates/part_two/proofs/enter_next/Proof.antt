@@ -2,7 +2,7 @@ use mathlib.Core.Path.{_≡_}
 use native.Mathlib.Omega.{arith}
 use lib.ListN.{length}
 use Rattle.replies.proofs.Equal.{gives-as}
-use Rattle.auth.proofs.Replies.{room-given}
+use Rattle.replies.proofs.Given.{room-given}
 use Rattle.part_two.specs.PartTwo.{enteredNext}
 use borrow.Author.Needs.{needs}
 use Rattle.part_two.proofs.enter_next.Statement.{statement}
@@ -20,11 +20,11 @@ no-pending-requires c κs = search needs
 talking-requires : tie.Need-talking-requires
 talking-requires c κs = search needs
 
-slice-aggregate-reply : tie.Need-slice-aggregate-reply
-slice-aggregate-reply c = search needs
+slice-aggregate-give-text : tie.Need-slice-aggregate-give-text
+slice-aggregate-give-text c = search needs
 
-reply-requires : tie.Need-reply-requires
-reply-requires c κs = search needs
+give-text-requires : tie.Need-give-text-requires
+give-text-requires c κs = search needs
 
 returns : tie.Need-returns
 unfolding enteredNext
@@ -36,7 +36,7 @@ returns c =
       ← c .before .before .before .before .before .next-reply .ensures,
       ← c .before .before .before .no-pending .ensures,
       ← c .before .before .talking .ensures,
-    ) (gives-as (c .reply .ensures) (room-given (c .before .before .talking .result) 0x9100 e (omega arith)))
+    ) (gives-as (c .give-text .ensures) (room-given (c .before .before .talking .result) 0x9100 e (omega arith)))
 
 pub enter-next-spec : {M : Type 1} → statement M
 enter-next-spec =
@@ -46,6 +46,6 @@ enter-next-spec =
     session-requires
     no-pending-requires
     talking-requires
-    slice-aggregate-reply
-    reply-requires
+    slice-aggregate-give-text
+    give-text-requires
     returns)

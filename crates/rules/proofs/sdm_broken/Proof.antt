@@ -4,18 +4,16 @@ use lib.Dec.{eqb}
 use lib.ListN.{length}
 use Rattle.rules.specs.declared.Part.the-variants.{SdmOptionsByte, SdmRightsBytes, Whole}
 use Rattle.rules.specs.declared.Check.the-variants.{SdmOptionsBits, SdmRights, MetaMirrors, MetaOff, EncNeeds}
-use Rattle.fields.specs.Fields.{placesIn}
-use Rattle.rules.specs.Rules.{found, sdmOptionsBits, positionRules, sdmRules}
+use Rattle.fields.specs.Fields.{readOf, sizeOf}
+use Rattle.rules.specs.Rules.{found, sdmOptionsBits, sdmRights, metaMirrors, metaOff, encNeeds, positionRules, sdmRules}
 use Rattle.rules.proofs.Found.{Finds, whole, checked}
+use Rattle.rules.proofs.Meant.{meant-own, settings-meant, head-meant}
 use borrow.Author.Needs.{needs}
 use Rattle.rules.proofs.sdm_broken.Statement.{statement}
 use Rattle.rules.proofs.sdm_broken.Tie as tie
 
-places-requires : tie.Need-places-requires
-places-requires c κs = search needs
-
 positions-requires : tie.Need-positions-requires
-positions-requires c κs = search needs
+positions-requires c κs = meant-own (c .before .before .args .r) (readOf (c .before .before .args .s .now)) (c .before .before .pre)
 
 size-of-requires : tie.Need-size-of-requires
 size-of-requires c κs = search needs
@@ -63,25 +61,22 @@ there-requires-3 : tie.Need-there-requires-3
 there-requires-3 c κs = search needs
 
 returns : tie.Need-returns
-unfolding sdmRules
+unfolding sdmRules readOf
 returns c =
-    let d = c .before .before .before .before .before .before .before in
-    let g = d .before .before .before .before .before .before .before .before .before in
-    let h = g .before .before .args .h in
-    let s = g .before .before .args .s .now in
-    let n = length s in
-    let f₉ : Finds (d .before .before .before .before .before .before .before .before .positions .result) (positionRules (record { head = h; places = placesIn s h })) =
-    record {
-      is = d .before .before .before .before .before .before .before .before .positions .ensures
-          ∙ ap (λ p. found (positionRules (record { head = h; places = p }))) (g .places .ensures);
-    } in
-    let f₈ = whole Whole (ap (λ k. eqb n k) (d .before .before .before .before .before .before .before .size-of .ensures)) f₉
-    (d .before .before .before .before .before .before .there .ensures) in
-    let f₇ = checked EncNeeds (d .before .before .before .before .before .enc-needs .ensures) f₈ (d .before .before .before .before .right .ensures) in
-    let f₆ = checked MetaOff (d .before .before .before .meta-off .ensures) f₇ (d .before .before .right2 .ensures) in
-    let f₅ = checked MetaMirrors (d .before .meta-mirrors .ensures) f₆ (d .right3 .ensures) in
-    let f₄ = checked SdmRights (c .before .before .before .before .before .before .sdm-rights .ensures) f₅ (c .before .before .before .before .before .right4 .ensures) in
-    let f₃ = whole SdmRightsBytes refl f₄ (c .before .before .before .before .there2 .ensures) in
+    let c4 = c .before .before .before .before in
+    let c8 = c4 .before .before .before .before in
+    let c12 = c8 .before .before .before .before in
+    let start = c12 .before .before .before .before .before .before in
+    let s = start .args .s .now in
+    let h = head-meant (start .args .r) s (start .pre) in
+    let f₉ : Finds (c12 .before .before .before .positions .result) (positionRules (readOf s)) =
+    record { is = c12 .before .before .before .positions .ensures ∙ ap (λ r. found (positionRules r)) (settings-meant (start .args .r) s (start .pre)) } in
+    let f₈ = whole Whole (ap (λ k. eqb (length s) k) (c12 .before .before .size-of .ensures ∙ ap sizeOf h)) f₉ (c12 .before .there .ensures) in
+    let f₇ = checked EncNeeds (c12 .enc-needs .ensures ∙ ap encNeeds h) f₈ (c8 .before .before .before .right .ensures) in
+    let f₆ = checked MetaOff (c8 .before .before .meta-off .ensures ∙ ap metaOff h) f₇ (c8 .before .right2 .ensures) in
+    let f₅ = checked MetaMirrors (c8 .meta-mirrors .ensures ∙ ap metaMirrors h) f₆ (c4 .before .before .before .right3 .ensures) in
+    let f₄ = checked SdmRights (c4 .before .before .sdm-rights .ensures ∙ ap sdmRights h) f₅ (c4 .before .right4 .ensures) in
+    let f₃ = whole SdmRightsBytes refl f₄ (c4 .there2 .ensures) in
     let o = c .before .before .sdm-options-bits .ensures ∙ ap sdmOptionsBits (c .before .before .before .at .ensures) in
     whole SdmOptionsByte refl (checked SdmOptionsBits o f₃ (c .before .right5 .ensures)) (c .there3 .ensures) .is
 
@@ -89,7 +84,6 @@ pub sdm-broken-spec : {M : Type 1} → statement M
 sdm-broken-spec =
     tie.close
     (tie.spec
-    places-requires
     positions-requires
     size-of-requires
     there-requires

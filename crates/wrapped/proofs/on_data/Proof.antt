@@ -11,7 +11,7 @@ array-share-prefix-plain : tie.Need-array-share-prefix-plain
 array-share-prefix-plain c = search needs
 
 slice-aggregate-own : tie.Need-slice-aggregate-own
-slice-aggregate-own c = let a = c .before .before .args in let l : length (a .t4) ≡ 256 = search needs in sym (length-take-le (a .n) (a .t4) (omega arith))
+slice-aggregate-own c = let a = c .before .args in let l : length (a .t5) ≡ 256 = search needs in sym (length-take-le (a .n) (a .t5) (omega arith))
 
 own-requires : tie.Need-own-requires
 own-requires c κs = search needs

@@ -1,3 +1,4 @@
+-- `access::granting::counter_grant` meets its contract: SDMCtrRet, never with SDM off.
 use mathlib.Core.Path.{ap, _∙_}
 use Rattle.base.specs.Decide.{pick}
 use Rattle.access.specs.declared.Grant.the-variants.{Never}
@@ -6,8 +7,8 @@ use borrow.Author.Needs.{needs}
 use Rattle.access.proofs.granting.counter_grant.Statement.{statement}
 use Rattle.access.proofs.granting.counter_grant.Tie as tie
 
-decide-requires : tie.Need-decide-requires
-decide-requires c κs = search needs
+granted-requires : tie.Need-granted-requires
+granted-requires c κs = search needs
 
 with-sdm-requires : tie.Need-with-sdm-requires
 with-sdm-requires c κs = search needs
@@ -16,7 +17,7 @@ returns : tie.Need-returns
 unfolding counterGrant
 returns c =
     let a = c .before .before .args in
-    c .with-sdm .ensures ∙ ap (λ g. pick (a .h .sdm) g Never) (c .before .decide .ensures)
+    c .with-sdm .ensures ∙ ap (λ g. pick (a .h .sdm) g Never) (c .before .granted .ensures)
 
 pub counter-grant-spec : {M : Type 1} → statement M
-counter-grant-spec = tie.close (tie.spec decide-requires with-sdm-requires returns)
+counter-grant-spec = tie.close (tie.spec granted-requires with-sdm-requires returns)

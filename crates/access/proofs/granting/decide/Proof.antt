@@ -1,43 +1,26 @@
-use Rattle.base.proofs.Bytes.{tests}
-use Rattle.access.specs.Access.{granted}
+-- `access::granting::decide` meets its contract: grant, mode and tap.
+use Rattle.access.specs.Access.{decided}
 use borrow.Author.Needs.{needs}
 use Rattle.access.proofs.granting.decide.Statement.{statement}
 use Rattle.access.proofs.granting.decide.Tie as tie
 
+grant-for-requires : tie.Need-grant-for-requires
+grant-for-requires c κs = search needs
+
+mode-for-requires : tie.Need-mode-for-requires
+mode-for-requires c κs = search needs
+
+reads-requires : tie.Need-reads-requires
+reads-requires c κs = search needs
+
+is-tap-requires : tie.Need-is-tap-requires
+is-tap-requires c κs = search needs
+
 returns : tie.Need-returns
-unfolding granted
-returns c = search (tests, c .before .if1 .taken)
-
-returns-2 : tie.Need-returns-2
-unfolding granted
-returns-2 c = search (tests, c .before .before .if1 .taken)
-
-without-key-requires : tie.Need-without-key-requires
-without-key-requires c κs = search needs
-
-returns-3 : tie.Need-returns-3
-unfolding granted
-returns-3 c = search (tests, c .before .before .before .if1 .taken, c .without-key .ensures)
-
-returns-4 : tie.Need-returns-4
-unfolding granted
-returns-4 c = search (tests, c .before .if1 .left)
-
-without-key-requires-2 : tie.Need-without-key-requires-2
-without-key-requires-2 c κs = search needs
-
-returns-5 : tie.Need-returns-5
-unfolding granted
-returns-5 c = search (tests, c .before .before .if1 .left, c .without-key2 .ensures)
+unfolding decided
+returns c = simp (c .is-tap .ensures, c .before .reads .ensures, c .before .before .mode-for .ensures, c .before .before .before .grant-for .ensures)
 
 pub decide-spec : {M : Type 1} → statement M
 decide-spec =
     tie.close
-    (tie.spec
-    returns
-    returns-2
-    without-key-requires
-    returns-3
-    returns-4
-    without-key-requires-2
-    returns-5)
+    (tie.spec grant-for-requires mode-for-requires reads-requires is-tap-requires returns)

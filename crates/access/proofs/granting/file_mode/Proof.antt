@@ -1,3 +1,4 @@
+-- `access::granting::file_mode` meets its contract: by the number of each mode.
 use Rattle.base.proofs.Bytes.{tests}
 use Rattle.messaging.specs.Protect.{modeNumber}
 use Rattle.access.specs.Access.{fileMode}

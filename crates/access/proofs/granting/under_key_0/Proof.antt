@@ -1,3 +1,4 @@
+-- `access::granting::under_key_0` meets its contract: a session, and its key.
 use Rattle.base.proofs.Bytes.{tests}
 use borrow.Author.Needs.{needs}
 use Rattle.access.proofs.granting.under_key_0.Statement.{statement}

@@ -1,3 +1,4 @@
+-- `access::granting::without_key` meets its contract: the tests in the order of the definition.
 use Rattle.base.proofs.Bytes.{tests}
 use Rattle.access.proofs.granting.without_key.Statement.{statement}
 use Rattle.access.proofs.granting.without_key.Tie as tie

@@ -1,4 +1,4 @@
-use Rattle.state.specs.State.{talking, endedOf}
+use Rattle.state.specs.State.{endedOf}
 use borrow.Author.Needs.{needs}
 use Rattle.state.proofs.parts.ended.Statement.{statement}
 use Rattle.state.proofs.parts.ended.Tie as tie
@@ -9,12 +9,12 @@ no-live-requires c κs = search needs
 no-pending-requires : tie.Need-no-pending-requires
 no-pending-requires c κs = search needs
 
-quiet-requires : tie.Need-quiet-requires
-quiet-requires c κs = search needs
+talking-requires : tie.Need-talking-requires
+talking-requires c κs = search needs
 
 returns : tie.Need-returns
-unfolding endedOf talking
-returns c = simp (c .before .before .no-live .ensures, c .before .no-pending .ensures, c .quiet .ensures)
+unfolding endedOf
+returns c = simp (c .talking .ensures, c .before .no-pending .ensures, c .before .before .no-live .ensures)
 
 pub ended-spec : {M : Type 1} → statement M
-ended-spec = tie.close (tie.spec no-live-requires no-pending-requires quiet-requires returns)
+ended-spec = tie.close (tie.spec no-live-requires no-pending-requires talking-requires returns)

@@ -2,6 +2,8 @@
 use mathlib.Core.Path.{refl, sym, ap, _∙_}
 use borrow.Author.Needs.{needs}
 use Rattle.base.specs.Decide.{pick}
+use Rattle.soundness.specs.declared.Judged.{Judged}
+use Rattle.soundness.specs.Sound.{judgedTag}
 use Rattle.tag.specs.declared.Outcome.the-variants.{Replied, SmallRoom, WrongRandom, Unsound}
 use Rattle.tag.proofs.Calling.{small-room, wrong-random, sound-or-not, no-length, calls}
 use Rattle.tag.proofs.entry.call.Statement.{statement}
@@ -25,8 +27,8 @@ returns-2 c = let a = c .before .before .before .before .before .before .args in
     (c .unanswered2 .ensures) refl
     (no-length WrongRandom (a .tag) _ (c .unanswered2 .ensures))
 
-sound-requires : tie.Need-sound-requires
-sound-requires c κs = search needs
+judge-tag-requires : tie.Need-judge-tag-requires
+judge-tag-requires c κs = search needs
 
 reply-requires : tie.Need-reply-requires
 reply-requires c κs = search needs
@@ -35,11 +37,12 @@ same-length : tie.Need-same-length
 same-length c = search needs
 
 returns-3 : tie.Need-returns-3
+unfolding judgedTag
 returns-3 c = let a = c .before .before .before .before .before .before .before .before .before .before .before .args in
     calls (a .tag) (a .command .now) (a .random .now) (a .room .now) _ _ Replied
     (sound-or-not (a .tag) (a .random .now) (a .room .now) (c .before .before .before .before .before .before .before .if1 .left)
     (c .before .before .before .before .before .before .if2 .left)
-    ∙ ap (λ b. pick b Replied Unsound) (sym (c .before .before .before .before .before .sound .ensures)
+    ∙ ap (λ b. pick b Replied Unsound) (sym (ap (λ (j : Judged). j .sound) (c .before .before .before .before .before .judge-tag .ensures))
     ∙ c .before .before .before .before .if3 .taken))
     (c .before .before .reply .ensures .told) (c .before .before .reply .ensures .left) (c .before .before .reply .ensures .short)
 
@@ -47,11 +50,12 @@ unanswered-requires-3 : tie.Need-unanswered-requires-3
 unanswered-requires-3 c κs = search needs
 
 returns-4 : tie.Need-returns-4
+unfolding judgedTag
 returns-4 c = let a = c .before .before .before .before .before .before .before .before .args in
     calls (a .tag) (a .command .now) (a .random .now) (a .room .now) _ _ Unsound
     (sound-or-not (a .tag) (a .random .now) (a .room .now) (c .before .before .before .before .if1 .left)
     (c .before .before .before .if2 .left) ∙ ap (λ b. pick b Replied Unsound)
-    (sym (c .before .before .sound .ensures) ∙ c .before .if3 .left))
+    (sym (ap (λ (j : Judged). j .sound) (c .before .before .judge-tag .ensures)) ∙ c .before .if3 .left))
     (c .unanswered3 .ensures) refl (no-length Unsound (a .tag) _ (c .unanswered3 .ensures))
 
 pub call-spec : {M : Type 1} → statement M
@@ -62,7 +66,7 @@ call-spec =
     returns
     unanswered-requires-2
     returns-2
-    sound-requires
+    judge-tag-requires
     reply-requires
     same-length
     returns-3

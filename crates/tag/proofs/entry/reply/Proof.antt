@@ -3,7 +3,7 @@ use mathlib.Core.Path.{subst, _∙_}
 use borrow.Author.Needs.{needs}
 use Rattle.base.proofs.Bytes.{laid-whole}
 use Rattle.replies.specs.Answer.{Gives}
-use Rattle.tag.specs.Call.{answered}
+use Rattle.tag.specs.Way.{answered}
 use Rattle.tag.proofs.Calling.{replies}
 use Rattle.tag.proofs.entry.reply.Statement.{statement}
 use Rattle.tag.proofs.entry.reply.Tie as tie
@@ -29,7 +29,7 @@ returns c = let a = c .before .before .before .before .before .before .before .b
     (subst (λ x. Gives (answered (a .tag) (a .command .now) x)
     (c .before .before .before .before .before .before .answered .result))
     (c .before .before .before .before .before .before .before .before .put .ensures
-    ∙ laid-whole (a .random .now) _ (c .before .before .before .before .before .before .before .before .before .before .before .before .before .pre .0))
+    ∙ laid-whole (a .random .now) _ (c .before .before .before .before .before .before .before .before .before .before .before .before .before .pre .1 .0))
     (c .before .before .before .before .before .before .answered .ensures))
     (c .before .before .before .lay .ensures)
 

@@ -1,0 +1,10 @@
+pub mod Order
+pub mod Access
+pub mod Taps
+pub mod Contents
+pub mod Binaries
+pub mod ChangeSettings
+pub mod Wrapped
+pub mod InterIndustry
+pub mod Answered
+pub mod Same
