@@ -1,5 +1,5 @@
 -- What a reading of a string says of its parts.
-use mathlib.Core.Path.{_≡_, sym, ap, _∙_}
+use mathlib.Core.Path.{_≡_, ap}
 use mathlib.Core.List.{List}
 use Prim.Native.Nat.{ℕ}
 use Rattle.fields.specs.declared.Head.{Head}
@@ -7,11 +7,6 @@ use Rattle.fields.specs.declared.Settings.{Settings}
 use Rattle.spans.specs.declared.Reading.{Reading}
 use Rattle.fields.specs.Fields.{sdmOn, headOf, readOf}
 use Rattle.spans.specs.Spans.{readingOf}
-
--- it is the reading of its own settings
-pub meant-own : (m : Reading) (r : Settings) → m ≡ readingOf r → m ≡ readingOf (m .settings)
-unfolding readingOf
-meant-own m r e = e ∙ ap (λ (x : Reading). readingOf (x .settings)) (sym e)
 
 module _ (m : Reading) (s : List ℕ) (e : m ≡ readingOf (readOf s)) where
   pub settings-meant : m .settings ≡ readOf s

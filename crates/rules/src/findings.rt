@@ -1,14 +1,13 @@
 // Rules one before the other, and those of the positions.
 ghost use mathlib.Core.Path.{_≡_};
 ghost use Rattle.base.specs.Decide.{pick};
-ghost use Rattle.spans.specs.Spans.{readingOf};
 ghost use Rattle.rules.specs.declared.Finding.the-variants.{Missing, Wrong};
 ghost use Rattle.rules.specs.Rules.{found, positionRules};
 use super::Check;
 use super::Finding;
 use super::Part;
 use super::checks;
-use spans::Reading;
+use fields::Settings;
 
 // A part that must be there whole, before the rest.
 pub fn there(part: Part, whole: bool, rest: Finding) -> Finding
@@ -30,12 +29,11 @@ pub fn right(check: Check, holds: bool, rest: Finding) -> Finding
     Finding::Wrong(check)
 }
 
-// Positions, of a record with its spans. The last rule comes first, since each goes before the rest.
-pub fn positions(m: Reading) -> Finding
-    requires { ⌜ m ≡ readingOf (m .settings) ⌝ }
-    ensures { λ x. ⌜ x ≡ found (positionRules (m .settings)) ⌝ }
+// Positions. The last rule comes first, since each goes before the rest.
+pub fn positions(r: Settings) -> Finding
+    ensures { λ x. ⌜ x ≡ found (positionRules r) ⌝ }
 {
-    let r = m.settings;
+    let m = spans::reading_of(r);
     let uid = m.uid;
     let counter = m.counter;
     let picc = m.picc;

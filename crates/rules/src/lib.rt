@@ -62,7 +62,7 @@ fn sdm_broken(s: &[u8], r: Reading) -> Finding
     ensures { λ x. ⌜ x ≡ found (sdmRules (now (s .entry)) (headOf (now (s .entry)))) ⌝ }
 {
     let h = r.settings.head;
-    let placed = findings::positions(r);
+    let placed = findings::positions(r.settings);
     let f8 = findings::there(Part::Whole, s.len() == fields::size_of(h), placed);
     let f7 = findings::right(Check::EncNeeds, checks::enc_needs(h), f8);
     let f6 = findings::right(Check::MetaOff, checks::meta_off(h), f7);

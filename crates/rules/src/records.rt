@@ -28,7 +28,7 @@ fn sdm_meets(r: Settings) -> bool
     );
     truth::both(
         truth::both(checks::sdm_rights(h), mirrors),
-        is_kept(findings::positions(spans::reading_of(r))),
+        is_kept(findings::positions(r)),
     )
 }
 

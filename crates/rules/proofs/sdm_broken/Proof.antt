@@ -7,13 +7,13 @@ use Rattle.rules.specs.declared.Check.the-variants.{SdmOptionsBits, SdmR
 use Rattle.fields.specs.Fields.{readOf, sizeOf}
 use Rattle.rules.specs.Rules.{found, sdmOptionsBits, sdmRights, metaMirrors, metaOff, encNeeds, positionRules, sdmRules}
 use Rattle.rules.proofs.Found.{Finds, whole, checked}
-use Rattle.rules.proofs.Meant.{meant-own, settings-meant, head-meant}
+use Rattle.rules.proofs.Meant.{settings-meant, head-meant}
 use borrow.Author.Needs.{needs}
 use Rattle.rules.proofs.sdm_broken.Statement.{statement}
 use Rattle.rules.proofs.sdm_broken.Tie as tie
 
 positions-requires : tie.Need-positions-requires
-positions-requires c κs = meant-own (c .before .before .args .r) (readOf (c .before .before .args .s .now)) (c .before .before .pre)
+positions-requires c κs = search needs
 
 size-of-requires : tie.Need-size-of-requires
 size-of-requires c κs = search needs

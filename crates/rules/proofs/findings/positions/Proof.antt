@@ -11,6 +11,9 @@ use borrow.Author.Needs.{needs}
 use Rattle.rules.proofs.findings.positions.Statement.{statement}
 use Rattle.rules.proofs.findings.positions.Tie as tie
 
+reading-of-requires : tie.Need-reading-of-requires
+reading-of-requires c κs = search needs
+
 enc-between-requires : tie.Need-enc-between-requires
 enc-between-requires c κs = search needs
 
@@ -68,20 +71,19 @@ right-requires-9 c κs = search needs
 returns : tie.Need-returns
 unfolding positionRules spansOf readingOf
 returns c =
-    let c4 = c .before .before .before .before in
-    let c8 = c4 .before .before .before .before in
-    let c12 = c8 .before .before .before .before in
-    let c16 = c12 .before .before .before .before in
-    let start = c16 .before .before .before .before .before .before .before .before in
-    let m = start .pre in
-    let apart = c12 .before .all-apart .ensures ∙ ap (λ (x : Reading). allApart (x .uid ∷ x .counter ∷ x .picc ∷ x .enc ∷ x .mac ∷ [])) m in
-    let f₉ = checked EncBetween (c16 .before .enc-between .ensures) none (c16 .right .ensures) in
-    let f₈ = checked MacInput (c12 .before .before .before .mac-input .ensures) f₉ (c12 .before .before .right2 .ensures) in
-    let f₇ = checked Shared apart f₈ (c12 .right3 .ensures) in
-    let f₆ = checked MacInside (c8 .before .before .before .is-inside .ensures ∙ ap (λ (x : Reading). inside (x .mac)) m) f₇ (c8 .before .before .right4 .ensures) in
-    let f₅ = checked EncInside (c8 .before .is-inside2 .ensures ∙ ap (λ (x : Reading). inside (x .enc)) m) f₆ (c8 .right5 .ensures) in
-    let f₄ = checked PiccInside (c4 .before .before .before .is-inside3 .ensures ∙ ap (λ (x : Reading). inside (x .picc)) m) f₅ (c4 .before .before .right6 .ensures) in
-    let f₃ = checked CounterInside (c4 .before .is-inside4 .ensures ∙ ap (λ (x : Reading). inside (x .counter)) m) f₄ (c4 .right7 .ensures) in
+    let d = c .before .before .before .before .before .before .before .before .before .before .before in
+    let g = d .before .before .before .before .before .before .before in
+    let m = g .before .before .before .before .before .reading-of .ensures in
+    let apart = d .before .before .all-apart .ensures ∙ ap (λ (x : Reading). allApart (x .uid ∷ x .counter ∷ x .picc ∷ x .enc ∷ x .mac ∷ [])) m in
+    let f₉ = checked EncBetween (d .before .before .before .before .before .before .enc-between .ensures) none (d .before .before .before .before .before .right .ensures) in
+    let f₈ = checked MacInput (d .before .before .before .before .mac-input .ensures) f₉ (d .before .before .before .right2 .ensures) in
+    let f₇ = checked Shared apart f₈ (d .before .right3 .ensures) in
+    let e = c .before .before .before .before .before .before in
+    let f₆ = checked MacInside (d .is-inside .ensures ∙ ap (λ (x : Reading). inside (x .mac)) m) f₇ (e .before .before .before .before .right4 .ensures) in
+    let f₅ = checked EncInside (e .before .before .before .is-inside2 .ensures ∙ ap (λ (x : Reading). inside (x .enc)) m) f₆ (e .before .before .right5 .ensures) in
+    let f₄ = checked PiccInside (e .before .is-inside3 .ensures ∙ ap (λ (x : Reading). inside (x .picc)) m) f₅ (e .right6 .ensures) in
+    let f₃ = checked CounterInside (c .before .before .before .before .before .is-inside4 .ensures ∙ ap (λ (x : Reading). inside (x .counter)) m) f₄
+    (c .before .before .before .before .right7 .ensures) in
     let f₂ = checked UidInside (c .before .before .before .is-inside5 .ensures ∙ ap (λ (x : Reading). inside (x .uid)) m) f₃ (c .before .before .right8 .ensures) in
     checked EncSize (c .before .enc-size .ensures) f₂ (c .right9 .ensures) .is
 
@@ -89,6 +91,7 @@ pub positions-spec : {M : Type 1} → statement M
 positions-spec =
     tie.close
     (tie.spec
+    reading-of-requires
     enc-between-requires
     right-requires
     mac-input-requires

@@ -1,10 +1,6 @@
 -- `rules::records::sdm_meets` meets its contract.
 use borrow.Author.Needs.{needs}
-use mathlib.Core.Path.{ap, _∙_}
-use Rattle.spans.specs.declared.Reading.{Reading}
-use Rattle.spans.specs.Spans.{readingOf}
-use Rattle.rules.specs.Rules.{found, positionRules, sdmMeets}
-use Rattle.rules.proofs.Meant.{meant-own}
+use Rattle.rules.specs.Rules.{sdmMeets}
 use Rattle.rules.proofs.records.sdm_meets.Statement.{statement}
 use Rattle.rules.proofs.records.sdm_meets.Tie as tie
 
@@ -29,11 +25,8 @@ sdm-rights-requires c κs = search needs
 both-requires-3 : tie.Need-both-requires-3
 both-requires-3 c κs = search needs
 
-reading-of-requires : tie.Need-reading-of-requires
-reading-of-requires c κs = search needs
-
 positions-requires : tie.Need-positions-requires
-positions-requires c κs = meant-own (c .reading-of .result) (c .before .before .before .before .before .before .before .before .before .args .r) (c .reading-of .ensures)
+positions-requires c κs = search needs
 
 is-kept-requires : tie.Need-is-kept-requires
 is-kept-requires c κs = search needs
@@ -42,20 +35,19 @@ both-requires-4 : tie.Need-both-requires-4
 both-requires-4 c κs = search needs
 
 returns : tie.Need-returns
-unfolding sdmMeets readingOf
+unfolding sdmMeets
 returns c =
-    let p = c .before .before .positions .ensures ∙ ap (λ (x : Reading). found (positionRules (x .settings))) (c .before .before .before .reading-of .ensures) in
     simp (
       c .both4 .ensures,
       c .before .is-kept .ensures,
-      p,
-      c .before .before .before .before .both3 .ensures,
-      c .before .before .before .before .before .sdm-rights .ensures,
-      c .before .before .before .before .before .before .both2 .ensures,
-      c .before .before .before .before .before .before .before .both .ensures,
-      c .before .before .before .before .before .before .before .before .enc-needs .ensures,
-      c .before .before .before .before .before .before .before .before .before .meta-off .ensures,
-      c .before .before .before .before .before .before .before .before .before .before .meta-mirrors .ensures,
+      c .before .before .positions .ensures,
+      c .before .before .before .both3 .ensures,
+      c .before .before .before .before .sdm-rights .ensures,
+      c .before .before .before .before .before .both2 .ensures,
+      c .before .before .before .before .before .before .both .ensures,
+      c .before .before .before .before .before .before .before .enc-needs .ensures,
+      c .before .before .before .before .before .before .before .before .meta-off .ensures,
+      c .before .before .before .before .before .before .before .before .before .meta-mirrors .ensures,
     )
 
 pub sdm-meets-spec : {M : Type 1} → statement M
@@ -69,7 +61,6 @@ sdm-meets-spec =
     both-requires-2
     sdm-rights-requires
     both-requires-3
-    reading-of-requires
     positions-requires
     is-kept-requires
     both-requires-4
