@@ -7,3 +7,4 @@ pub mod Readback
 pub mod Meaning
 pub mod Reachable
 pub mod Samples
+pub mod Inside

@@ -1,3 +1,4 @@
 pub mod Talks
 pub mod Reaching
 pub mod Samples
+pub mod Inside

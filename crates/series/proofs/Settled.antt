@@ -5,7 +5,7 @@ use mathlib.Core.List.{List, [], _∷_, _++_}
 use Prim.Native.Nat.{ℕ, _+_, _-_, _*_, _≤_}
 use native.Mathlib.Omega.{arith}
 use lib.Dec.{eqb, leb, ltb}
-use lib.ListN.{length, take, drop, replicate, length-append, length-replicate, List·getD-eq-default}
+use lib.ListN.{length, take, drop, replicate, length-append, length-replicate}
 use lib.Seq.{take-at}
 use borrow.Author.Tests.{eqb-true, ltb-true, le-leb, eq-eqb}
 use Rattle.base.specs.Decide.{pick, and, or}
@@ -13,8 +13,7 @@ use Rattle.base.specs.Bytes.{byteAt}
 use Rattle.base.proofs.Bytes.{and-left, and-right, laid-length, same-refl}
 use Rattle.messaging.specs.declared.Mode.{Mode}
 use Rattle.spans.specs.declared.Reading.{Reading}
-use Rattle.settings.specs.declared.Verdict.{Verdict}
-use Rattle.settings.specs.declared.Verdict.the-variants.{Good, Refused, WrongFile}
+use Rattle.settings.specs.declared.Verdict.the-variants.{Good}
 use Rattle.settings.specs.Answers.{judged}
 use Rattle.fields.specs.Normal.{normal}
 use Rattle.fields.specs.Fields.{readOf, headOf, sdmOn}
@@ -27,7 +26,8 @@ use Rattle.state.specs.declared.Files.{Files}
 use Rattle.state.specs.declared.Tag.{Tag}
 use Rattle.mirror.specs.Mirrors.{laidOf}
 use Rattle.state.specs.State.{fileOf, slotOf, rulesOf, readingIn, filed, tapped}
-use Rattle.soundness.specs.Sound.{good, rulesSound}
+use Rattle.soundness.specs.Sound.{rulesSound}
+use Rattle.soundness.proofs.Inside.{rules-good, no-string}
 use Rattle.taps.specs.declared.Shown.{Shown}
 use Rattle.taps.specs.Taps.{goesOn, startStatus, counted, mirrorFor, shown, tapStatus, shownPart, tapRead}
 use Rattle.change_settings.specs.ChangeSettings.{withRules, recounted, restrung, byVerdict}
@@ -37,15 +37,6 @@ use Rattle.series.proofs.Clauses.{level-file, level-on, level-selected,
 use Rattle.series.proofs.Fine.{Calm, Fine, FineAfter, fine-refused, fine-accepted}
 
 -- ---- other settings
-good-is : (v : Verdict) → good v ≡ true → v ≡ Good
-good-is Good e = refl
-good-is (Refused s) e = absurd (not-both e)
-good-is (WrongFile f) e = absurd (not-both e)
-
-pub rules-good : (f : Files) (n : ℕ) → rulesSound f n ≡ true → judged n (rulesOf f n) ≡ Good
-unfolding rulesSound
-rules-good f n e = good-is (judged n (rulesOf f n)) (and-left _ _ (and-right (leb (byteAt (f .lens) (slotOf n)) 27) _ e))
-
 normal-sound : (f : Files) (n : ℕ) (s : List ℕ) → byteAt (f .lens) (slotOf n) ≤ 27 → rulesOf f n ≡ s → judged n s ≡ Good → normal s ≡ s
     → rulesSound f n ≡ true
 unfolding rulesSound
@@ -134,12 +125,6 @@ sdm-file n s g e = eqb-true n 2 (by (sdmOn s) e (front-kept n s g .file))
     by : (b : Bool) → b ≡ true → or (not b) (eqb n 2) ≡ true → eqb n 2 ≡ true
     by true q h = h
     by false q h = absurd (not-both q)
-
-no-string : (f : Files) (n : ℕ) → length (f .lens) ≡ 3 → slotOf n ≡ 3 → rulesOf f n ≡ []
-unfolding rulesOf
-no-string f n l e =
-    ap (λ i. take (byteAt (f .lens) i) (take 27 (drop (slotOf n * 27) (f .rules)))) e
-    ∙ ap (λ k. take k (take 27 (drop (slotOf n * 27) (f .rules)))) (List·getD-eq-default (f .lens) 0 {n = 3} (omega arith))
 
 empty-off : readingOf (readOf []) .settings .head .sdm ≡ false
 unfolding readingOf readOf headOf sdmOn

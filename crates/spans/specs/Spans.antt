@@ -2,6 +2,7 @@
 -- two present spans share a byte").
 use mathlib.Core.Bool.{Bool, true}
 use mathlib.Core.List.{List, [], _∷_}
+use mathlib.Core.Path.{_≡_}
 use Prim.Native.Nat.{ℕ, _+_, _≤_, _<_}
 use lib.Dec.{leb}
 use Rattle.base.specs.Decide.{pick, and, or}
@@ -68,3 +69,12 @@ apartFrom a (b ∷ bs) = and (apart a b) (apartFrom a bs)
 unfoldable pub allApart : List Span → Bool
 allApart [] = true
 allApart (a ∷ bs) = and (apartFrom a bs) (allApart bs)
+
+-- what a reading has whose mirrors are to be laid: the spans of its settings, and each ends inside the file
+pub record SpansFit (r : Reading) : Type 0 where
+  pub spans : r ≡ readingOf (r .settings)
+  pub uid : endOf (r .uid) ≤ 256
+  pub counter : endOf (r .counter) ≤ 256
+  pub picc : endOf (r .picc) ≤ 256
+  pub enc : endOf (r .enc) ≤ 256
+  pub mac : endOf (r .mac) ≤ 256
