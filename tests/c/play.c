@@ -125,6 +125,29 @@ static void stored_lengths(void) {
     unsound(image, 506, 255, "a stored length of 255");
 }
 
+/* 01's example in file 2 with the MAC at 240: a read that mirrors shows it at the file's end. At 241 it would end behind the file, and
+ * the image is not sound. */
+static void last_place(void) {
+    static const byte uid[7] = {4, 1, 2, 3, 4, 5, 6}, random[20] = {7}, read[] = {0x00, 0xB0, 0x00, 0xF0, 0x10};
+    static const byte string[15] = {0x40, 0x00, 0xE0, 0xC1, 0xF1, 0x21, 0x20, 0, 0, 0, 0, 0, 240, 0, 0};
+    byte image[IMAGE], now[IMAGE], room[BIG], blank[BIG];
+    fill(blank, 0xA5, BIG);
+    fill(room, 0xA5, BIG);
+    expect(mainspur_fresh(uid, 7, image, IMAGE) == 0, "a fresh tag for the last place");
+    copy(image + 451, string, 15);
+    image[506] = 15;
+    image[664] = 1; /* the application */
+    image[665] = 2; /* file 2 is selected */
+    copy(now, image, IMAGE);
+    expect(mainspur_call(now, IMAGE, read, sizeof read, random, 20, room, BIG) == 18, "a mirror at the file's end");
+    expect(room[16] == 0x90 && room[17] == 0x00 && room[0] != 0 && room[15] != 0, "its digits");
+    fill(room, 0xA5, BIG);
+    image[451 + 12] = 241;
+    copy(now, image, IMAGE);
+    expect(mainspur_call(now, IMAGE, read, sizeof read, random, 20, room, BIG) == MAINSPUR_UNSOUND, "a mirror that ends behind the file");
+    expect(same(now, image, IMAGE) && same(room, blank, BIG), "image and room behind it");
+}
+
 /* Part two on an image that holds a pending part of 71 (first is 1) or 77 with counter 0x0105 and TI A1 A2 A3 A4: 71 opens a
  * session with CmdCtr 0 and TI from the random bytes, 77 keeps both. Key 0 is zeros; the command is E(key 0; RndA, RndB'), with
  * RndA 00 to 0F and RndB 10 to 1F. */
@@ -156,6 +179,7 @@ int main(void) {
     fresh_refusals();
     settings_strings();
     stored_lengths();
+    last_place();
     part_two(1);
     part_two(0);
     n = next_line(uid, sizeof uid);

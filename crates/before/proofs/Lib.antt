@@ -1,1 +1,3 @@
-pub mod Past
+pub mod Mirrors
+pub mod Taps
+pub mod Same

@@ -1,1 +1,4 @@
-pub mod Past
+pub mod Mirrors
+pub mod Taps
+pub mod Answers
+pub mod Same

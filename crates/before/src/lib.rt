@@ -1,1 +1,1 @@
-// The test that mirrored reads make, and that every one gets past it. No code.
+// The answers of a tag as they were defined with the test that a mirror's span ends inside the file, and that they are the same without it. No code.

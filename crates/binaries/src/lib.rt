@@ -2,6 +2,7 @@
 ghost use mathlib.Core.Path.{_≡_};
 ghost use lib.Dec.{eqb};
 ghost use Rattle.base.specs.Decide.{pick};
+ghost use Rattle.spans.specs.Spans.{SpansFit};
 ghost use Rattle.replies.specs.Answer.{Gives};
 ghost use Rattle.binaries.specs.Binaries.{isPlain, isoPart, readBinary, updatedBinary, binary};
 use access::Decision;
@@ -23,6 +24,7 @@ fn is_plain(m: Mode) -> bool
 
 // A part of the selected file that is there: a tap, or the stored bytes.
 fn iso_part(tag: Tag, k: Command, r: Reading, d: Decision, count: usize, random: [u8; 20]) -> Done
+    requires { ⌜ SpansFit r ⌝ }
     ensures { λ x. ⌜ Gives (isoPart tag k r d count random) x ⌝ }
 {
     if d.tap {
@@ -43,6 +45,7 @@ fn all_or(le: usize, left: usize) -> usize
 
 // ISOReadBinary of the selected file.
 fn read_binary(tag: Tag, k: Command, r: Reading, d: Decision, random: [u8; 20]) -> Done
+    requires { ⌜ SpansFit r ⌝ }
     ensures { λ x. ⌜ Gives (readBinary tag k r d random) x ⌝ }
 {
     let size = state::file_size(k.file);
@@ -75,6 +78,7 @@ fn update_binary(tag: Tag, k: Command, x: &[u8]) -> Done
 
 // A read or an update of the selected file, granted so.
 pub fn binary(tag: Tag, k: Command, r: Reading, d: Decision, x: &[u8], random: [u8; 20]) -> Done
+    requires { ⌜ SpansFit r ⌝ }
     ensures { λ y. ⌜ Gives (binary tag k r d (now (x .entry)) random) y ⌝ }
 {
     let m = d.mode;

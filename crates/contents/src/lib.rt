@@ -2,6 +2,7 @@
 ghost use mathlib.Core.Path.{_≡_};
 ghost use Prim.Native.Nat.{_+_};
 ghost use lib.Dec.{ltb};
+ghost use Rattle.spans.specs.Spans.{SpansFit};
 ghost use Rattle.replies.specs.Answer.{Gives};
 ghost use Rattle.contents.specs.Contents.{rangeStatus, asked, wrappedPart, readData, writeStatus, writtenData};
 use access::Decision;
@@ -59,6 +60,7 @@ fn wrapped_part(
     count: usize,
     random: [u8; 20],
 ) -> Done
+    requires { ⌜ SpansFit r ⌝ }
     ensures { λ x. ⌜ Gives (wrappedPart tag k r d count random) x ⌝ }
 {
     if d.tap {
@@ -70,6 +72,7 @@ fn wrapped_part(
 
 // ReadData; r are the file's settings.
 pub fn read_data(tag: Tag, k: Command, r: Reading, d: Decision, random: [u8; 20]) -> Done
+    requires { ⌜ SpansFit r ⌝ }
     ensures { λ x. ⌜ Gives (readData tag k r d random) x ⌝ }
 {
     let size = state::file_size(k.file);

@@ -20,7 +20,7 @@ use Rattle.fields.specs.Fields.{hasCounter, hasEnc, hasMac, hasPicc, hasUid, he
 use Rattle.fields.specs.declared.Head.{Head}
 use Rattle.fields.specs.declared.Places.{Places}
 use Rattle.fields.specs.declared.Settings.{Settings}
-use Rattle.spans.specs.Spans.{allApart, inside, readingOf}
+use Rattle.spans.specs.Spans.{allApart, inside, readingOf, SpansFit}
 use Rattle.spans.specs.declared.Reading.{Reading}
 use Rattle.spans.specs.declared.Span.{Span}
 use Rattle.rules.specs.Numbers.{findingNumber, firstNumber}
@@ -58,8 +58,7 @@ use Rattle.opening.specs.declared.Opened.{Opened}
 use Rattle.lines.specs.Hex.{charOf, charsRoom, decoded, decodedNumber, decodedRoom, digitOf, isHex}
 use Rattle.lines.specs.Lines.{seek}
 use Rattle.lines.specs.declared.Decoded.{Decoded}
-use Rattle.mirror.specs.Mirrors.{laidOf}
-use Rattle.mirror.specs.declared.Laid.{Laid}
+use Rattle.mirror.specs.Mirrors.{dynamicData}
 use Rattle.mirror.specs.declared.Mirror.{Mirror}
 use Rattle.determined.specs.Determining.{Determined, DeterminedIn}
 use Rattle.rules.specs.declared.Examined.{Examined}
@@ -348,5 +347,5 @@ pub encode-determined : (s room : List ℕ) → Determined (λ (new : List ℕ).
 encode-determined s room = once
 
 -- ---- mirror
-pub lay-determined : (file : List ℕ) (r : Reading) (m : Mirror) → Determined (λ (l : Laid). l ≡ laidOf file r m)
-lay-determined file r m = once
+pub lay-determined : (file : List ℕ) (r : Reading) (m : Mirror) → SpansFit r → Determined (λ (f : List ℕ). f ≡ dynamicData file r m)
+lay-determined file r m asked = once

@@ -6,6 +6,7 @@ use mathlib.Core.List.{List}
 use Prim.Native.Nat.{ℕ, min}
 use lib.ListN.{take}
 use Rattle.fields.specs.declared.Head.{Head}
+use Rattle.spans.specs.Spans.{SpansFit}
 use Rattle.spans.specs.declared.Reading.{Reading}
 use Rattle.messaging.specs.declared.Mode.{Mode}
 use Rattle.messaging.specs.declared.Session.{Session}
@@ -149,12 +150,12 @@ pub with-bytes-determined : (f : Files) (n at : ℕ) (p : List ℕ) → Determin
 with-bytes-determined f n at p = once
 
 -- ---- taps
-pub read-tap-determined : (tag : Tag) (r : Reading) (iso : Bool) (at count : ℕ) (random : List ℕ) → DeterminedText (λ (d : Done). Gives (tapRead tag r iso at count random) d)
-read-tap-determined tag r iso at count random = gives-once
+pub read-tap-determined : (tag : Tag) (r : Reading) (iso : Bool) (at count : ℕ) (random : List ℕ) → SpansFit r → DeterminedText (λ (d : Done). Gives (tapRead tag r iso at count random) d)
+read-tap-determined tag r iso at count random asked = gives-once
 
 -- ---- contents
-pub read-data-determined : (tag : Tag) (k : Command) (r : Reading) (d : Decision) (random : List ℕ) → DeterminedText (λ (x : Done). Gives (readData tag k r d random) x)
-read-data-determined tag k r d random = gives-once
+pub read-data-determined : (tag : Tag) (k : Command) (r : Reading) (d : Decision) (random : List ℕ) → SpansFit r → DeterminedText (λ (x : Done). Gives (readData tag k r d random) x)
+read-data-determined tag k r d random asked = gives-once
 
 pub write-data-determined : (tag : Tag) (k : Command) (p : List ℕ) (m : Mode) → DeterminedText (λ (r : Done). Gives (writtenData tag k p m) r)
 write-data-determined tag k p m = gives-once
@@ -168,8 +169,8 @@ pub decide-determined : (name : Name) (l : Live) (h : Head) → Determined (λ (
 decide-determined name l h = once
 
 -- ---- binaries
-pub binary-determined : (tag : Tag) (k : Command) (r : Reading) (d : Decision) (x random : List ℕ) → DeterminedText (λ (y : Done). Gives (binary tag k r d x random) y)
-binary-determined tag k r d x random = gives-once
+pub binary-determined : (tag : Tag) (k : Command) (r : Reading) (d : Decision) (x random : List ℕ) → SpansFit r → DeterminedText (λ (y : Done). Gives (binary tag k r d x random) y)
+binary-determined tag k r d x random asked = gives-once
 
 -- ---- delivery
 pub fresh-determined : (uid : List ℕ) → Determined (λ (r : Birth). Births uid r)
@@ -192,8 +193,8 @@ pub second-determined : (tag : Tag) (x random : List ℕ) → DeterminedText (λ
 second-determined tag x random = gives-once
 
 -- ---- wrapped
-pub wrapped-determined : (tag : Tag) (k : Command) (r : Reading) (d : Decision) (x random : List ℕ) → DeterminedText (λ (y : Done). Gives (wrapped tag k r d x random) y)
-wrapped-determined tag k r d x random = gives-once
+pub wrapped-determined : (tag : Tag) (k : Command) (r : Reading) (d : Decision) (x random : List ℕ) → SpansFit r → DeterminedText (λ (y : Done). Gives (wrapped tag k r d x random) y)
+wrapped-determined tag k r d x random asked = gives-once
 
 -- ---- tag
 pub call-determined : (tag : Tag) (command random room : List ℕ)

@@ -1,82 +1,34 @@
--- Where every span ends inside the file, the mirrors are laid; of a good string every span does.
-use mathlib.Core.Path.{_≡_, ap, ap₂}
-use mathlib.Core.Bool.{Bool, true, false}
-use mathlib.Core.List.{List}
-use Prim.Native.Nat.{ℕ, _≤_}
-use borrow.Author.Tests.{leb-true, le-leb}
-use Rattle.base.specs.Decide.{pick, and}
-use Rattle.base.proofs.Bytes.{and-left, and-right}
+-- Of a reading whose spans end inside the file: where a mirror is present, so many bytes from its start on do.
+use mathlib.Core.Path.{_≡_, sym, ap, _∙_}
+use mathlib.Core.Bool.{Bool, true}
+use Prim.Native.Nat.{ℕ, _+_, _≤_}
+use native.Mathlib.Omega.{arith}
+use Rattle.base.specs.Decide.{pick}
 use Rattle.spans.specs.declared.Span.{Span}
-use Rattle.fields.specs.declared.Settings.{Settings}
 use Rattle.spans.specs.declared.Reading.{Reading}
-use Rattle.settings.specs.declared.Verdict.the-variants.{Good}
-use Rattle.fields.specs.Fields.{readOf}
-use Rattle.spans.specs.Spans.{spansOf, readingOf, endOf, inside}
-use Rattle.settings.specs.Answers.{judged}
-use Rattle.meanings.specs.Placing.{Placed}
-use Rattle.meanings.proofs.Mirrors.{good-placed}
-use Rattle.mirror.specs.declared.Mirror.{Mirror}
-use Rattle.mirror.specs.Mirrors.{dynamicData, allInside, laidOf}
+use Rattle.fields.specs.Fields.{hasUid, hasCounter, hasPicc, hasMac}
+use Rattle.spans.specs.Spans.{span, uidSpan, counterSpan, piccSpan, macSpan, readingOf, endOf, SpansFit}
 
--- every span ends inside 256 bytes
-pub record Ends (r : Reading) : Type 0 where
-  pub uid : endOf (r .uid) ≤ 256
-  pub counter : endOf (r .counter) ≤ 256
-  pub picc : endOf (r .picc) ≤ 256
-  pub enc : endOf (r .enc) ≤ 256
-  pub mac : endOf (r .mac) ≤ 256
+-- a span that is there has its size
+inside-by : (x : Span) (p : Bool) (at n : ℕ) → x ≡ span p at n → endOf x ≤ 256 → x .present ≡ true → x .start + n ≤ 256
+unfolding span
+inside-by x p at n e h t =
+    let z : x .size ≡ n = ap (λ y. y .size) e ∙ ap (λ b. pick b n 0) (sym (ap (λ y. y .present) e) ∙ t) in
+    omega (arith, h)
 
-inside-end : (s : Span) → inside s ≡ true → endOf s ≤ 256
-unfolding inside
-inside-end s e = leb-true (endOf s) 256 e
+module _ (r : Reading) (w : SpansFit r) where
+  pub uid-inside : r .uid .present ≡ true → r .uid .start + 14 ≤ 256
+  unfolding readingOf uidSpan
+  uid-inside = inside-by (r .uid) (hasUid (r .settings .head)) (r .settings .places .uid) 14 (ap (λ x. x .uid) (w .spans)) (w .uid)
 
-end-inside : (s : Span) → endOf s ≤ 256 → inside s ≡ true
-unfolding inside
-end-inside s h = le-leb (endOf s) 256 h
+  pub counter-inside : r .counter .present ≡ true → r .counter .start + 6 ≤ 256
+  unfolding readingOf counterSpan
+  counter-inside = inside-by (r .counter) (hasCounter (r .settings .head)) (r .settings .places .counter) 6 (ap (λ x. x .counter) (w .spans)) (w .counter)
 
-pub inside-ends : (r : Reading) → allInside r ≡ true → Ends r
-unfolding allInside
-inside-ends r e =
-    let e₁ = and-right (inside (r .uid)) _ e in
-    let e₂ = and-right (inside (r .counter)) _ e₁ in
-    let e₃ = and-right (inside (r .picc)) _ e₂ in
-    record {
-      uid = inside-end (r .uid) (and-left _ _ e);
-      counter = inside-end (r .counter) (and-left _ _ e₁);
-      picc = inside-end (r .picc) (and-left _ _ e₂);
-      enc = inside-end (r .enc) (and-left _ _ e₃);
-      mac = inside-end (r .mac) (and-right (inside (r .enc)) _ e₃);
-    }
+  pub picc-inside : r .picc .present ≡ true → r .picc .start + 32 ≤ 256
+  unfolding readingOf piccSpan
+  picc-inside = inside-by (r .picc) (hasPicc (r .settings .head)) (r .settings .places .picc) 32 (ap (λ x. x .picc) (w .spans)) (w .picc)
 
-pub ends-inside : (r : Reading) → Ends r → allInside r ≡ true
-unfolding allInside
-ends-inside r h =
-    ap₂ and (end-inside (r .uid) (h .uid))
-    (ap₂ and (end-inside (r .counter) (h .counter))
-    (ap₂ and (end-inside (r .picc) (h .picc)) (ap₂ and (end-inside (r .enc) (h .enc)) (end-inside (r .mac) (h .mac)))))
-
--- what is answered, by the test
-pub laid-by : (file : List ℕ) (r : Reading) (m : Mirror) {t : Bool} → allInside r ≡ t
-    → laidOf file r m ≡ pick t (record { inside = true; bytes = dynamicData file r m }) (record { inside = false; bytes = file })
-unfolding laidOf
-laid-by file r m e =
-    ap (λ t. pick t (record { inside = true; bytes = dynamicData file r m }) (record { inside = false; bytes = file })) e
-
-placed-ends : (r : Settings) → Placed r → Ends (readingOf r)
-unfolding readingOf spansOf
-placed-ends r p =
-    record {
-      uid = p .end 0;
-      counter = p .end 1;
-      picc = p .end 2;
-      enc = p .end 3;
-      mac = p .end 4;
-    }
-
--- of a good string the mirrors are laid
-pub good-inside : (n : ℕ) (s : List ℕ) → judged n s ≡ Good → allInside (readingOf (readOf s)) ≡ true
-good-inside n s e = ends-inside (readingOf (readOf s)) (placed-ends (readOf s) (good-placed n s e))
-
-pub good-laid : (n : ℕ) (s file : List ℕ) (m : Mirror) → judged n s ≡ Good
-    → laidOf file (readingOf (readOf s)) m .inside ≡ true
-good-laid n s file m e = ap (λ l. l .inside) (laid-by file (readingOf (readOf s)) m (good-inside n s e))
+  pub mac-inside : r .mac .present ≡ true → r .mac .start + 16 ≤ 256
+  unfolding readingOf macSpan
+  mac-inside = inside-by (r .mac) (hasMac (r .settings .head)) (r .settings .places .mac) 16 (ap (λ x. x .mac) (w .spans)) (w .mac)

@@ -1,15 +1,14 @@
 -- Laws of the mirrors as they are laid, for the functions that lay them.
 use mathlib.Core.Path.{_≡_, refl, sym, ap, ap₂, _∙_}
 use mathlib.Core.Bool.{Bool, true, false}
-use mathlib.Core.List.{List, [], _∷_, _++_}
-use Prim.Native.Nat.{ℕ, zero, suc, _+_, _-_, _*_, _/_, _≤_, _<_}
+use mathlib.Core.List.{List, [], _++_, append-nil}
+use Prim.Native.Nat.{ℕ, zero, suc, _+_, _-_, _*_, _/_, _≤_}
 use native.Mathlib.Omega.{arith}
-use lib.ListN.{length, take, drop, length-drop}
-use lib.Seq.{take-at, drop-at, take-add, take-take, length-take-le}
+use lib.ListN.{length, take, drop, length-drop, drop-of-length-le}
+use lib.Seq.{drop-at, take-add, take-take, length-take-le}
 use borrow.Author.Tests.{le-leb}
 use Rattle.base.specs.Decide.{pick, or}
-use Rattle.base.specs.Bytes.{laid, over}
-use Rattle.base.proofs.Bytes.{laid-not}
+use Rattle.base.specs.Bytes.{over}
 use Rattle.lines.specs.Hex.{charsOf, charsRoom}
 use Rattle.lines.proofs.Steps.{chars-length}
 use Rattle.cbc.specs.Cbc.{across, sealed, cbcOut}
@@ -18,32 +17,27 @@ use Rattle.spans.specs.declared.Reading.{Reading}
 use Rattle.mirror.specs.declared.Mirror.{Mirror}
 use Rattle.mirror.specs.Mirrors.{mirrorAt, stretch, withEnc, withMac}
 
--- ---- digits
--- the digits at the front of a room that they fit into
-chars-front : (s room : List ℕ) → length s * 2 ≤ length room → take (length s * 2) (charsRoom s room) ≡ charsOf s
-unfolding charsRoom
-chars-front s room h =
-    ap (λ t. take (length s * 2) (pick t (over (charsOf s) room) room)) (le-leb (length s * 2) (length room) h)
-    ∙ take-at (charsOf s) (drop (length (charsOf s)) room) (length s * 2) (chars-length s)
-
 -- ---- one mirror
-pub mirror-by : (s : Span) (bytes file : List ℕ) {t : Bool} → s .present ≡ t
-    → mirrorAt s bytes file ≡ pick t (laid (charsOf bytes) (s .start) file) file
+pub mirror-off : (s : Span) (bytes file : List ℕ) → s .present ≡ false → mirrorAt s bytes file ≡ file
 unfolding mirrorAt
-mirror-by s bytes file e = ap (λ t. pick t (laid (charsOf bytes) (s .start) file) file) e
+mirror-off s bytes file e = rw e refl
 
--- digits put over the file from a room
-pub mirror-put : (s : Span) (text room digits file f : List ℕ) → s .present ≡ true → length text * 2 ≤ length room
-    → digits ≡ charsRoom text room → f ≡ laid (take (length text * 2) digits) (s .start) file → f ≡ mirrorAt s text file
-mirror-put s text room digits file f p h d e =
-    e
-    ∙ ap (λ x. laid x (s .start) file) (ap (λ x. take (length text * 2) x) d ∙ chars-front text room h)
-    ∙ sym (mirror-by s text file p)
+-- digits laid into a part of the file that is as long as they are
+digits-exact : (text room : List ℕ) → length room ≡ length text * 2 → charsRoom text room ≡ charsOf text
+unfolding charsRoom
+digits-exact text room h =
+    ap (λ t. pick t (over (charsOf text) room) room) (le-leb (length text * 2) (length room) (omega arith))
+    ∙ ap (λ x. charsOf text ++ x) (drop-of-length-le room {i = length (charsOf text)} (omega (arith, chars-length text)))
+    ∙ append-nil (charsOf text)
 
--- more digits than the file has bytes
-pub mirror-long : (s : Span) (text file : List ℕ) → s .present ≡ true → length file < length text * 2 → mirrorAt s text file ≡ file
-mirror-long s text file p h =
-    mirror-by s text file p ∙ laid-not (charsOf text) (s .start) file (omega (arith, chars-length text))
+pub mirror-put : (s : Span) (text file digits : List ℕ) (n : ℕ) → s .present ≡ true → n ≡ length text * 2 → s .start + n ≤ length file
+    → digits ≡ charsRoom text (take n (drop (s .start) file)) → take (s .start) file ++ (digits ++ drop n (drop (s .start) file)) ≡ mirrorAt s text file
+unfolding mirrorAt
+mirror-put s text file digits n p e h d =
+    let l : length (take n (drop (s .start) file)) ≡ length text * 2 =
+    length-take-le n (drop (s .start) file) (omega (arith, length-drop (s .start) file)) ∙ e in
+    ap₂ (λ x k. take (s .start) file ++ (x ++ drop k (drop (s .start) file))) (d ∙ digits-exact text _ l) (e ∙ sym (chars-length text))
+    ∙ sym (ap (λ t. pick t (take (s .start) file ++ over (charsOf text) (drop (s .start) file)) file) p)
 
 -- ---- ENC: of half a span only whole blocks count
 across-front : (f g : List ℕ → List ℕ → List ℕ) (n : ℕ) (v s : List ℕ) → n * 16 ≤ length s
@@ -91,4 +85,4 @@ pub keyed-off : (r : Reading) (m : Mirror) (static file : List ℕ) → or (r .e
 unfolding withMac withEnc
 keyed-off r m static file e =
     let n = neither (r .enc .present) (r .mac .present) e in
-    mirror-by (r .mac) _ _ (n .1) ∙ mirror-by (r .enc) _ file (n .0)
+    mirror-off (r .mac) _ _ (n .1) ∙ mirror-off (r .enc) _ file (n .0)

@@ -1,24 +1,21 @@
 -- 01, "A tap" (9.3): mirrors are laid over the file, never stored, as capital hexadecimal.
-use mathlib.Core.Bool.{Bool, true, false}
-use mathlib.Core.List.{List, [], _∷_}
+use mathlib.Core.List.{List, [], _∷_, _++_}
 use Prim.Native.Nat.{ℕ, _+_, _-_, _/_, _%_}
 use lib.ListN.{take, drop}
-use Rattle.base.specs.Decide.{pick, and}
-use Rattle.base.specs.Bytes.{laid}
+use Rattle.base.specs.Decide.{pick}
+use Rattle.base.specs.Bytes.{over}
 use Rattle.lines.specs.Hex.{charsOf}
 use Rattle.cbc.specs.Cbc.{cbcOut}
 use Rattle.key_expansion.specs.Keys.{keyExpansion}
 use Rattle.cmac.specs.Cmac.{mac}
 use Rattle.sdm.specs.Tap.{piccData, tapKeys, tapIv}
-use Rattle.spans.specs.Spans.{inside}
 use Rattle.spans.specs.declared.Span.{Span}
 use Rattle.spans.specs.declared.Reading.{Reading}
-use Rattle.mirror.specs.declared.Laid.{Laid}
 use Rattle.mirror.specs.declared.Mirror.{Mirror}
 
 -- 9.3.3, EncodeASCII: bytes as capital hexadecimal over the file, where the mirror is present
 unfoldable pub mirrorAt : Span → List ℕ → List ℕ → List ℕ
-mirrorAt s bytes file = pick (s .present) (laid (charsOf bytes) (s .start) file) file
+mirrorAt s bytes file = pick (s .present) (take (s .start) file ++ over (charsOf bytes) (drop (s .start) file)) file
 
 -- the bytes of a file from one place to before another
 abbrev pub stretch : ℕ → ℕ → List ℕ → List ℕ
@@ -57,19 +54,3 @@ withMac r m dynamic =
 unfoldable pub dynamicData : List ℕ → Reading → Mirror → List ℕ
 dynamicData static r m =
     withMac r m (withEnc r m static (withPicc r m (withCounter r m (withUid r m static))))
-
--- every span ends inside the file
-unfoldable pub allInside : Reading → Bool
-allInside r =
-    and (inside (r .uid))
-    (and (inside (r .counter))
-    (and (inside (r .picc))
-    (and (inside (r .enc))
-    (inside (r .mac)))))
-
--- where one does not, no mirror is laid
-unfoldable pub laidOf : List ℕ → Reading → Mirror → Laid
-laidOf static r m =
-    pick (allInside r)
-    (record { inside = true; bytes = dynamicData static r m })
-    (record { inside = false; bytes = static })

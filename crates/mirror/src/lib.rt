@@ -1,24 +1,18 @@
 // The mirrors of a tap (9.3): laid over file 2, never stored.
 ghost use mathlib.Core.Bool.{true};
 ghost use mathlib.Core.Path.{_≡_};
-ghost use Prim.Native.Nat.{_%_, _≤_};
+ghost use Prim.Native.Nat.{_+_, _*_, _%_, _≤_};
 ghost use lib.ListN.{length};
-ghost use Rattle.base.specs.Decide.{and, or};
+ghost use Rattle.base.specs.Decide.{or};
 ghost use Rattle.cbc.specs.Cbc.{cbcOut};
 ghost use Rattle.key_expansion.specs.Keys.{keyExpansion};
 ghost use Rattle.cmac.specs.Cmac.{mac};
 ghost use Rattle.sdm.specs.Tap.{tapIv};
-ghost use Rattle.spans.specs.Spans.{endOf, inside};
-ghost use Rattle.mirror.specs.Mirrors.{mirrorAt, stretch, highFirst, withUid, withCounter, withPicc, encData, withEnc, withMac, dynamicData, allInside, laidOf};
+ghost use Rattle.spans.specs.Spans.{endOf, SpansFit};
+ghost use Rattle.mirror.specs.Mirrors.{mirrorAt, stretch, highFirst, withUid, withCounter, withPicc, encData, withEnc, withMac, dynamicData};
 use sdm::Tap;
 use spans::Reading;
 use spans::Span;
-
-// File 2 as a tap shows it, or as it was where a span does not end inside it.
-pub struct Laid {
-    pub inside: bool,
-    pub bytes: [u8; 256],
-}
 
 // What a tap mirrors and with which keys.
 pub struct Mirror {
@@ -26,29 +20,6 @@ pub struct Mirror {
     pub meta_key: [u8; 16],
     pub file_key: [u8; 16],
     pub random: [u8; 20],
-}
-
-// Whether a span ends inside the file.
-fn fits(s: Span) -> bool
-    ensures { λ r. ⌜ r ≡ inside s ⌝ }
-{
-    if 256 < s.start {
-        return false;
-    }
-    if 256 - s.start < s.size {
-        return false;
-    }
-    true
-}
-
-// Whether both hold.
-fn both(a: bool, b: bool) -> bool
-    ensures { λ r. ⌜ r ≡ and a b ⌝ }
-{
-    if a {
-        return b;
-    }
-    false
 }
 
 // Whether one holds.
@@ -61,31 +32,17 @@ fn either(a: bool, b: bool) -> bool
     b
 }
 
-// Whether every span does.
-fn all_fit(r: Reading) -> bool
-    ensures { λ b. ⌜ b ≡ allInside r ⌝ }
-{
-    let keyed = both(fits(r.enc), fits(r.mac));
-    both(
-        fits(r.uid),
-        both(fits(r.counter), both(fits(r.picc), keyed)),
-    )
-}
-
-// Bytes as capital hexadecimal over the file, at a span that is present.
+// Bytes as capital hexadecimal over the file, at a span that is present and inside it.
 fn lay_hex(file: [u8; 256], s: Span, text: &[u8]) -> [u8; 256]
+    requires { ⌜ (s .present ≡ true → s .start + length (now text) * 2 ≤ 256) ⌝ }
     ensures { λ r. ⌜ r ≡ mirrorAt s (now (text .entry)) file ⌝ }
 {
     if s.present {
-        if text.len() <= 128 {
-            let n = text.len() * 2;
-            let at = s.start as usize;
-            let mut digits = [0u8; 256];
-            let mut f = file;
-            lines::encode(text, &mut digits);
-            base::put(&digits[..n], &mut f, at);
-            return f;
-        }
+        let at = s.start as usize;
+        let e = at + text.len() * 2;
+        let mut f = file;
+        lines::encode(text, &mut f[at..e]);
+        return f;
     }
     file
 }
@@ -103,6 +60,7 @@ fn high_first(counter: u32) -> [u8; 3]
 
 // UID, counter and PICCData.
 fn lay_picc(file: [u8; 256], r: Reading, m: Mirror) -> [u8; 256]
+    requires { ⌜ SpansFit r ⌝ }
     ensures { λ f. ⌜ f ≡ withPicc r m (withCounter r m (withUid r m file)) ⌝ }
 {
     let uid = m.tap.uid;
@@ -121,6 +79,7 @@ fn lay_picc(file: [u8; 256], r: Reading, m: Mirror) -> [u8; 256]
 // A text of whole blocks, encrypted, over the file.
 fn lay_hidden(file: [u8; 256], s: Span, key: [u8; 16], counter: u32, text: &mut [u8]) -> [u8; 256]
     requires { ⌜ length (now text) % 16 ≡ 0 ⌝ }
+    requires { ⌜ s .start + length (now text) * 2 ≤ 256 ⌝ }
     ensures { λ r. ⌜ r ≡ mirrorAt s (cbcOut (keyExpansion key) (tapIv key counter) (now (text .entry))) file ⌝ }
 {
     sdm::tap_encrypt(key, counter, text);
@@ -154,7 +113,7 @@ fn mac_between(file: [u8; 256], a: usize, e: usize, key: [u8; 16]) -> [u8; 8]
 
 // The MAC of the mirrored text from an input start to before the MAC.
 fn lay_mac(file: [u8; 256], s: Span, input: u32, key: [u8; 16]) -> [u8; 256]
-    requires { ⌜ endOf s ≤ 256 ⌝ }
+    requires { ⌜ (s .present ≡ true → s .start + 16 ≤ 256) ⌝ }
     ensures { λ r. ⌜ r ≡ mirrorAt s (mac key (stretch input (s .start) file)) file ⌝ }
 {
     if s.present {
@@ -166,8 +125,7 @@ fn lay_mac(file: [u8; 256], s: Span, input: u32, key: [u8; 16]) -> [u8; 256]
 
 // ENC and the MAC, under the keys of the tap.
 fn lay_keyed(stored: [u8; 256], file: [u8; 256], r: Reading, m: Mirror) -> [u8; 256]
-    requires { ⌜ endOf (r .enc) ≤ 256 ⌝ }
-    requires { ⌜ endOf (r .mac) ≤ 256 ⌝ }
+    requires { ⌜ SpansFit r ⌝ }
     ensures { λ f. ⌜ f ≡ withMac r m (withEnc r m stored file) ⌝ }
 {
     let key = m.file_key;
@@ -178,9 +136,9 @@ fn lay_keyed(stored: [u8; 256], file: [u8; 256], r: Reading, m: Mirror) -> [u8; 
     lay_mac(g, r.mac, r.settings.places.input, mac)
 }
 
-// Every mirror; the keys only where they are needed.
-fn lay_all(file: [u8; 256], r: Reading, m: Mirror) -> [u8; 256]
-    requires { ⌜ allInside r ≡ true ⌝ }
+// Every mirror that the settings name, over file 2; the keys only where they are needed.
+pub fn lay(file: [u8; 256], r: Reading, m: Mirror) -> [u8; 256]
+    requires { ⌜ SpansFit r ⌝ }
     ensures { λ f. ⌜ f ≡ dynamicData file r m ⌝ }
 {
     let f = lay_picc(file, r, m);
@@ -188,21 +146,4 @@ fn lay_all(file: [u8; 256], r: Reading, m: Mirror) -> [u8; 256]
         return lay_keyed(file, f, r, m);
     }
     f
-}
-
-// Every mirror that the settings name.
-pub fn lay(file: [u8; 256], r: Reading, m: Mirror) -> Laid
-    ensures { λ l. ⌜ l ≡ laidOf file r m ⌝ }
-{
-    if all_fit(r) {
-        let f = lay_all(file, r, m);
-        return Laid {
-            inside: true,
-            bytes: f,
-        };
-    }
-    Laid {
-        inside: false,
-        bytes: file,
-    }
 }

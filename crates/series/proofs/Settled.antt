@@ -5,12 +5,12 @@ use mathlib.Core.List.{List, [], _∷_, _++_}
 use Prim.Native.Nat.{ℕ, _+_, _-_, _*_, _≤_}
 use native.Mathlib.Omega.{arith}
 use lib.Dec.{eqb, leb, ltb}
-use lib.ListN.{length, take, drop, replicate, length-append, length-replicate}
+use lib.ListN.{length, take, replicate, length-append, length-replicate}
 use lib.Seq.{take-at}
 use borrow.Author.Tests.{eqb-true, ltb-true, le-leb, eq-eqb}
 use Rattle.base.specs.Decide.{pick, and, or}
 use Rattle.base.specs.Bytes.{byteAt}
-use Rattle.base.proofs.Bytes.{and-left, and-right, laid-length, same-refl}
+use Rattle.base.proofs.Bytes.{laid-length, same-refl}
 use Rattle.messaging.specs.declared.Mode.{Mode}
 use Rattle.spans.specs.declared.Reading.{Reading}
 use Rattle.settings.specs.declared.Verdict.the-variants.{Good}
@@ -24,12 +24,11 @@ use Rattle.meanings.proofs.NormalForm.{normal-length, normal-twice, normal-good
 use Rattle.meanings.proofs.Mirrors.{good-length}
 use Rattle.state.specs.declared.Files.{Files}
 use Rattle.state.specs.declared.Tag.{Tag}
-use Rattle.mirror.specs.Mirrors.{laidOf}
-use Rattle.state.specs.State.{fileOf, slotOf, rulesOf, readingIn, filed, tapped}
+use Rattle.state.specs.State.{slotOf, rulesOf, readingIn, filed, tapped}
 use Rattle.soundness.specs.Sound.{rulesSound}
 use Rattle.soundness.proofs.Inside.{rules-good, no-string}
 use Rattle.taps.specs.declared.Shown.{Shown}
-use Rattle.taps.specs.Taps.{goesOn, startStatus, counted, mirrorFor, shown, tapStatus, shownPart, tapRead}
+use Rattle.taps.specs.Taps.{goesOn, startStatus, counted, shown, tapStatus, shownPart, tapRead}
 use Rattle.change_settings.specs.ChangeSettings.{withRules, recounted, restrung, byVerdict}
 use Rattle.series.proofs.Choices.{not-both, way}
 use Rattle.series.proofs.Places.{length-other, length-same, slot-other, slot-same, same-slot, slot-1, slot-2, slot-3}
@@ -156,11 +155,7 @@ unfolding shown
 shown-range t h r iso random =
     let going = goesOn (t .tap) iso in
     let status = startStatus going (t .tap .counter) (r .settings .head .limit) (r .settings .places .limit) in
-    let counter = counted going (t .tap .counter) in
-    let l = laidOf (fileOf (t .files) 2) r (mirrorFor t (r .settings .head) counter random) in
-    way InRange (eqb status 0)
-    (λ e. way InRange (l .inside) (λ i z. counted-range going (t .tap .counter) h) (λ i z. absurd (not-both z)))
-    (λ e z. absurd (not-both (sym e ∙ z)))
+    way InRange (eqb status 0) (λ e z. counted-range going (t .tap .counter) h) (λ e z. absurd (not-both (sym e ∙ z)))
 
 pub fine-tapped : (t : Tag) → Fine t → (n : ℕ) (iso : Bool) (random : List ℕ) (at count : ℕ)
     → readingIn (t .files) n .settings .head .sdm ≡ true → t .live .on ≡ false → t .pending .on ≡ false

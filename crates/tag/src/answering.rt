@@ -1,13 +1,13 @@
 // The way of a command: steps 1 to 5, access, step 7, and then the command itself.
+ghost use mathlib.Core.Bool.{true};
 ghost use mathlib.Core.Path.{_≡_};
 ghost use Prim.Native.Nat.{_≤_};
 ghost use lib.Dec.{eqb};
 ghost use lib.ListN.{length};
 ghost use Rattle.base.specs.Decide.{pick};
-ghost use Rattle.base.specs.Status.{authenticationError, isoSecurity};
+ghost use Rattle.spans.specs.Spans.{SpansFit};
 ghost use Rattle.state.specs.State.{readingIn};
-ghost use Rattle.soundness.specs.Sound.{judgedTag};
-ghost use Rattle.access.specs.Access.{grantStatus};
+ghost use Rattle.soundness.specs.Sound.{soundTag, judgedTag};
 ghost use Rattle.order.specs.Commands.{dataOf};
 ghost use Rattle.replies.specs.Answer.{Gives};
 ghost use Rattle.tag.specs.Way.{usedUp, fromStep7, onGrant, fromStep6, commanded, answered};
@@ -40,6 +40,7 @@ fn by_class(class: u8, wrapped: u16, iso: u16) -> u16
 
 // Steps 7 to 9 of a command that is granted.
 fn from_step_7(tag: Tag, k: Command, r: Reading, d: Decision, x: &[u8], random: [u8; 20]) -> Done
+    requires { ⌜ SpansFit r ⌝ }
     ensures { λ y. ⌜ Gives (fromStep7 tag k r d (now (x .entry)) random) y ⌝ }
 {
     if used_up(tag.live.on, tag.live.counter) {
@@ -61,6 +62,7 @@ fn on_grant(
     x: &[u8],
     random: [u8; 20],
 ) -> Done
+    requires { ⌜ SpansFit r ⌝ }
     ensures { λ y. ⌜ Gives (onGrant g tag k r d (now (x .entry)) random) y ⌝ }
 {
     match g {
@@ -75,6 +77,7 @@ fn on_grant(
 
 // Step 6: access, asked once.
 fn from_step_6(tag: Tag, k: Command, r: Reading, x: &[u8], random: [u8; 20]) -> Done
+    requires { ⌜ SpansFit r ⌝ }
     ensures { λ y. ⌜ Gives (fromStep6 tag k r (now (x .entry)) random) y ⌝ }
 {
     let name = k.name;
@@ -85,6 +88,7 @@ fn from_step_6(tag: Tag, k: Command, r: Reading, x: &[u8], random: [u8; 20]) -> 
 
 // A command behind steps 1 to 5; r are the settings of its file, x is its data.
 fn commanded(name: Name, tag: Tag, k: Command, r: Reading, x: &[u8], random: [u8; 20]) -> Done
+    requires { ⌜ SpansFit r ⌝ }
     ensures { λ y. ⌜ Gives (commanded name tag k r (now (x .entry)) random) y ⌝ }
 {
     match name {
@@ -98,6 +102,7 @@ fn commanded(name: Name, tag: Tag, k: Command, r: Reading, x: &[u8], random: [u8
 
 // The same, its data among its bytes.
 fn on_bytes(tag: Tag, k: Command, r: Reading, c: &[u8], random: [u8; 20]) -> Done
+    requires { ⌜ SpansFit r ⌝ }
     requires { ⌜ (k .start ≤ k .end) × (k .end ≤ length (now c)) ⌝ }
     ensures { λ y. ⌜ Gives (commanded (k .name) tag k r (dataOf k (now (c .entry))) random) y ⌝ }
 {
@@ -120,9 +125,10 @@ fn reading_for(tag: Tag, j: Judged, n: u8) -> Reading
     }
 }
 
-// The answer to a command, of a tag that was judged so.
+// The answer to a command, of a sound tag that was judged so.
 pub fn answered(tag: Tag, j: Judged, c: &[u8], random: [u8; 20]) -> Done
     requires { ⌜ j ≡ judgedTag tag ⌝ }
+    requires { ⌜ soundTag tag ≡ true ⌝ }
     ensures { λ r. ⌜ Gives (answered tag (now (c .entry)) random) r ⌝ }
 {
     let o = order::command_in(c, tag.pending.on, tag.place.application, tag.place.file);

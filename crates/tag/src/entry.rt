@@ -1,8 +1,9 @@
 // The one entry: refusals 1 to 3, and the reply laid into the room.
+ghost use mathlib.Core.Bool.{true};
 ghost use mathlib.Core.Path.{_≡_};
 ghost use Prim.Native.Nat.{_≤_};
 ghost use lib.ListN.{length, take};
-ghost use Rattle.soundness.specs.Sound.{judgedTag};
+ghost use Rattle.soundness.specs.Sound.{soundTag, judgedTag};
 ghost use Rattle.tag.specs.Way.{answered};
 ghost use Rattle.tag.specs.Call.{withStatus, unanswered, Laid, Replies, Calls};
 use crate::Called;
@@ -35,6 +36,7 @@ fn lay(bytes: [u8; 258], n: usize, status: u16, room: &mut [u8]) -> usize
 // The answer to a sound tag's command, with 20 random bytes; j is what judging the tag gave.
 fn reply(tag: Tag, j: Judged, command: &[u8], random: &[u8], room: &mut [u8]) -> Called
     requires { ⌜ j ≡ judgedTag tag ⌝ }
+    requires { ⌜ soundTag tag ≡ true ⌝ }
     requires { ⌜ (length (now random) ≡ 20) × (258 ≤ length (now room)) ⌝ }
     ensures { λ r. ⌜ Replies (answered tag (now (command .entry)) (now (random .entry))) (now (room .entry)) r (now (room .exit)) ⌝ }
 {

@@ -1,6 +1,6 @@
 -- What a tap shows and gives, told by the answers of its steps.
 use mathlib.Core.Path.{_≡_, sym, ap, ap₂, _∙_}
-use mathlib.Core.Bool.{Bool, true, false}
+use mathlib.Core.Bool.{Bool, true}
 use mathlib.Core.List.{List}
 use Prim.Native.Nat.{ℕ, min}
 use native.Mathlib.Omega.{arith}
@@ -11,8 +11,7 @@ use Rattle.base.specs.Decide.{pick}
 use Rattle.base.specs.Status.{operationOk, isoNormal}
 use Rattle.spans.specs.declared.Reading.{Reading}
 use Rattle.mirror.specs.declared.Mirror.{Mirror}
-use Rattle.mirror.specs.declared.Laid.{Laid}
-use Rattle.mirror.specs.Mirrors.{laidOf}
+use Rattle.mirror.specs.Mirrors.{dynamicData}
 use Rattle.state.specs.declared.Tag.{Tag}
 use Rattle.state.specs.declared.Tapping.{Tapping}
 use Rattle.state.specs.State.{fileOf, tapped}
@@ -21,7 +20,7 @@ use Rattle.replies.specs.Answer.{given, refusal}
 use Rattle.file_parts.specs.Filing.{partOf}
 use Rattle.file_parts.proofs.Parts.{part-given}
 use Rattle.taps.specs.declared.Shown.{Shown}
-use Rattle.taps.specs.Taps.{goesOn, startStatus, counted, mirrorFor, notShown, showing, shown, tapStatus, shownPart}
+use Rattle.taps.specs.Taps.{goesOn, startStatus, counted, mirrorFor, notShown, shown, tapStatus, shownPart}
 use Rattle.taps.proofs.Going.{pick-true, pick-false}
 
 -- a status other than 0 refuses with it
@@ -30,19 +29,6 @@ refused-by s z x p e n = ap (λ y. notShown y p) e ∙ pick-false (eqb z 0) x (n
 
 started-by : (s z : ℕ) (x y : Shown) → s ≡ z → s ≡ 0 → x ≡ pick (eqb z 0) x y
 started-by s z x y e n = pick-true (eqb z 0) x y (eq-eqb z 0 (sym e ∙ n))
-
--- the mirrored file, or 919E
-laid-in : (p : Tapping) (iso : Bool) (counter n : ℕ) (l k : Laid) → n ≡ counter → l ≡ k → l .inside ≡ true
-    → record { status = 0; tap = record { on = true; iso = iso; counter = n }; bytes = l .bytes } ≡ showing p iso counter k
-laid-in p iso counter n l k c e h =
-    ap₂ (λ (i : ℕ) (y : Laid). record { status = 0; tap = record { on = true; iso = iso; counter = i }; bytes = y .bytes }) c e
-    ∙ pick-true (k .inside) (record { status = 0; tap = record { on = true; iso = iso; counter = counter }; bytes = k .bytes })
-    (notShown 0x919E p) (ap (λ (y : Laid). y .inside) (sym e) ∙ h)
-
-laid-out : (p : Tapping) (iso : Bool) (counter : ℕ) (l k : Laid) → l ≡ k → l .inside ≡ false → notShown 0x919E p ≡ showing p iso counter k
-laid-out p iso counter l k e h =
-    pick-false (k .inside) (record { status = 0; tap = record { on = true; iso = iso; counter = counter }; bytes = k .bytes })
-    (notShown 0x919E p) (ap (λ (y : Laid). y .inside) (sym e) ∙ h)
 
 module _ (t : Tag) (r : Reading) (iso : Bool) (random : List ℕ) (going : Bool) (status : ℕ) (g : going ≡ goesOn (t .tap) iso)
     (s : status ≡ startStatus going (t .tap .counter) (r .settings .head .limit) (r .settings .places .limit)) where
@@ -53,22 +39,19 @@ module _ (t : Tag) (r : Reading) (iso : Bool) (random : List ℕ) (going : Bool)
   unfolding shown
   shows-refused n = refused-by status _ _ (t .tap) told n
 
-  module _ (counter : ℕ) (file : List ℕ) (m : Mirror) (l : Laid) (z : status ≡ 0) (c : counter ≡ counted going (t .tap .counter))
-      (f : file ≡ fileOf (t .files) 2) (h : m ≡ mirrorFor t (r .settings .head) counter random) (i : l ≡ laidOf file r m) where
+  module _ (counter : ℕ) (file : List ℕ) (m : Mirror) (bytes : List ℕ) (z : status ≡ 0) (c : counter ≡ counted going (t .tap .counter))
+      (f : file ≡ fileOf (t .files) 2) (h : m ≡ mirrorFor t (r .settings .head) counter random) (i : bytes ≡ dynamicData file r m) where
     count : counter ≡ counted (goesOn (t .tap) iso) (t .tap .counter)
     count = c ∙ ap (λ b. counted b (t .tap .counter)) g
 
-    laid : l ≡ laidOf (fileOf (t .files) 2) r (mirrorFor t (r .settings .head) (counted (goesOn (t .tap) iso) (t .tap .counter)) random)
-    laid = i ∙ ap₂ (λ x y. laidOf x r y) f (h ∙ ap (λ n. mirrorFor t (r .settings .head) n random) count)
+    dynamic : bytes ≡ dynamicData (fileOf (t .files) 2) r (mirrorFor t (r .settings .head) (counted (goesOn (t .tap) iso) (t .tap .counter)) random)
+    dynamic = i ∙ ap₂ (λ x y. dynamicData x r y) f (h ∙ ap (λ n. mirrorFor t (r .settings .head) n random) count)
 
-    pub shows-laid : l .inside ≡ true
-        → record { status = 0; tap = record { on = true; iso = iso; counter = counter }; bytes = l .bytes } ≡ shown t r iso random
+    pub shows-mirrored : record { status = 0; tap = record { on = true; iso = iso; counter = counter }; bytes = bytes } ≡ shown t r iso random
     unfolding shown
-    shows-laid e = laid-in (t .tap) iso _ counter l _ count laid e ∙ started-by status _ _ _ told z
-
-    pub shows-outside : l .inside ≡ false → notShown 0x919E (t .tap) ≡ shown t r iso random
-    unfolding shown
-    shows-outside e = laid-out (t .tap) iso _ l _ laid e ∙ started-by status _ _ _ told z
+    shows-mirrored =
+        ap₂ (λ (n : ℕ) (x : List ℕ). record { status = 0; tap = record { on = true; iso = iso; counter = n }; bytes = x }) count dynamic
+        ∙ started-by status _ _ _ told z
 
 -- ---- what a tap gives
 module _ (t : Tag) (s : Shown) (iso : Bool) (at n : ℕ) where

@@ -5,12 +5,11 @@ use Prim.Native.Nat.{ℕ, _+_}
 use lib.Dec.{eqb, leb, ltb}
 use lib.ListN.{take, drop, replicate}
 use Rattle.base.specs.Decide.{pick, and}
-use Rattle.base.specs.Status.{operationOk, integrityError, permissionDenied, parameterError, isoNormal, isoSecurity, isoWrongP1P2}
+use Rattle.base.specs.Status.{operationOk, integrityError, permissionDenied, isoNormal, isoSecurity}
 use Rattle.fields.specs.declared.Head.{Head}
 use Rattle.spans.specs.declared.Reading.{Reading}
 use Rattle.mirror.specs.declared.Mirror.{Mirror}
-use Rattle.mirror.specs.declared.Laid.{Laid}
-use Rattle.mirror.specs.Mirrors.{laidOf}
+use Rattle.mirror.specs.Mirrors.{dynamicData}
 use Rattle.state.specs.declared.Tag.{Tag}
 use Rattle.state.specs.declared.Tapping.{Tapping}
 use Rattle.state.specs.State.{fileOf, keyIn, tapped}
@@ -44,23 +43,23 @@ mirrorFor t h counter random =
 abbrev pub notShown : ℕ → Tapping → Shown
 notShown s t = record { status = s; tap = t; bytes = replicate 256 0 }
 
--- a span that does not end inside the file: no sound state gets here, and 919E stands in
-abbrev pub showing : Tapping → Bool → ℕ → Laid → Shown
-showing t iso counter l =
-    pick (l .inside) (record { status = 0; tap = record { on = true; iso = iso; counter = counter }; bytes = l .bytes }) (notShown parameterError t)
-
+-- a tap that starts or goes on: file 2 with its mirrors
 unfoldable pub shown : Tag → Reading → Bool → List ℕ → Shown
 shown t r iso random =
     let going = goesOn (t .tap) iso in
     let status = startStatus going (t .tap .counter) (r .settings .head .limit) (r .settings .places .limit) in
     let counter = counted going (t .tap .counter) in
     pick (eqb status 0)
-    (showing (t .tap) iso counter (laidOf (fileOf (t .files) 2) r (mirrorFor t (r .settings .head) counter random)))
+    (record {
+      status = 0;
+      tap = record { on = true; iso = iso; counter = counter };
+      bytes = dynamicData (fileOf (t .files) 2) r (mirrorFor t (r .settings .head) counter random);
+    })
     (notShown status (t .tap))
 
--- its status; ISO: a tap that can't start is 6982, and a span outside the file, to which no sound state gets, 6A86
+-- its status; ISO: a tap that can't start is 6982
 unfoldable pub tapStatus : Bool → ℕ → ℕ
-tapStatus iso s = pick iso (pick (eqb s parameterError) isoWrongP1P2 isoSecurity) s
+tapStatus iso s = pick iso isoSecurity s
 
 -- a tap gives the part of the mirrored file that is asked for, or is refused
 unfoldable pub shownPart : Tag → Shown → Bool → ℕ → ℕ → Answer

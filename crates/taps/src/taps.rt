@@ -3,8 +3,9 @@ ghost use mathlib.Core.Path.{_≡_};
 ghost use Rattle.base.specs.Decide.{pick};
 ghost use Rattle.base.specs.Status.{operationOk, isoNormal};
 ghost use Rattle.state.specs.State.{fileOf};
+ghost use Rattle.spans.specs.Spans.{SpansFit};
 ghost use Rattle.replies.specs.Answer.{Gives};
-ghost use Rattle.taps.specs.Taps.{goesOn, startStatus, counted, mirrorFor, notShown, shown, tapStatus, shownPart, tapRead};
+ghost use Rattle.taps.specs.Taps.{goesOn, startStatus, counted, mirrorFor, shown, tapStatus, shownPart, tapRead};
 use crate::Shown;
 use fields::Head;
 use mirror::Mirror;
@@ -88,19 +89,9 @@ fn second(f: Files) -> [u8; 256]
     r
 }
 
-// A tap that is refused: the tap state stays, and nothing is shown.
-fn no_show(status: u16, t: Tapping) -> Shown
-    ensures { λ r. ⌜ r ≡ notShown status t ⌝ }
-{
-    Shown {
-        status,
-        tap: t,
-        bytes: [0; 256],
-    }
-}
-
-// What a read of file 2 without a session shows.
+// What a read of file 2 without a session shows; refused, the tap state stays, and nothing is shown.
 fn show(tag: Tag, r: Reading, iso: bool, random: [u8; 20]) -> Shown
+    requires { ⌜ SpansFit r ⌝ }
     ensures { λ s. ⌜ s ≡ shown tag r iso random ⌝ }
 {
     let now = tag.tap;
@@ -108,36 +99,30 @@ fn show(tag: Tag, r: Reading, iso: bool, random: [u8; 20]) -> Shown
     let head = r.settings.head;
     let status = start_status(going, now.counter, head.limit, r.settings.places.limit);
     if status != 0 {
-        return no_show(status, now);
-    }
-    let counter = count(going, now.counter);
-    let laid = mirror::lay(second(tag.files), r, mirror_for(tag, head, counter, random));
-    let mirrored = laid.bytes;
-    if laid.inside {
         return Shown {
-            status: 0,
-            tap: Tapping {
-                on: true,
-                iso,
-                counter,
-            },
-            bytes: mirrored,
+            status,
+            tap: now,
+            bytes: [0; 256],
         };
     }
-    no_show(0x919E, now)
+    let counter = count(going, now.counter);
+    let bytes = mirror::lay(second(tag.files), r, mirror_for(tag, head, counter, random));
+    Shown {
+        status: 0,
+        tap: Tapping {
+            on: true,
+            iso,
+            counter,
+        },
+        bytes,
+    }
 }
 
 // A tap's status, as an ISO one where it is.
 fn tap_status(iso: bool, s: u16) -> u16
     ensures { λ r. ⌜ r ≡ tapStatus iso s ⌝ }
 {
-    if iso {
-        if s == 0x919E {
-            return 0x6A86;
-        }
-        return 0x6982;
-    }
-    s
+    if iso { 0x6982 } else { s }
 }
 
 // The status that accepts.
@@ -165,6 +150,7 @@ fn give_shown(tag: Tag, s: Shown, iso: bool, at: usize, count: usize) -> Done
 
 // A read of file 2 that is a tap, by ISOReadBinary or by ReadData; r are its settings.
 pub fn read_tap(tag: Tag, r: Reading, iso: bool, at: usize, count: usize, random: [u8; 20]) -> Done
+    requires { ⌜ SpansFit r ⌝ }
     ensures { λ d. ⌜ Gives (tapRead tag r iso at count random) d ⌝ }
 {
     give_shown(tag, show(tag, r, iso, random), iso, at, count)

@@ -2,6 +2,7 @@
 ghost use mathlib.Core.Path.{_≡_};
 ghost use Prim.Native.Nat.{_≤_};
 ghost use lib.ListN.{length, take};
+ghost use Rattle.spans.specs.Spans.{SpansFit};
 ghost use Rattle.opening.specs.Command.{openedStatus};
 ghost use Rattle.replies.specs.Answer.{Gives};
 ghost use Rattle.wrapped.specs.Wrapped.{own, openingOf, onOpening, wrapped};
@@ -23,6 +24,7 @@ fn own(
     p: &[u8],
     random: [u8; 20],
 ) -> Done
+    requires { ⌜ SpansFit r ⌝ }
     ensures { λ x. ⌜ Gives (own name tag k r d (now (p .entry)) random) x ⌝ }
 {
     let m = d.mode;
@@ -63,6 +65,7 @@ fn on_data(
     n: usize,
     random: [u8; 20],
 ) -> Done
+    requires { ⌜ SpansFit r ⌝ }
     requires { ⌜ n ≤ 256 ⌝ }
     ensures { λ x. ⌜ Gives (own (k .name) tag k r d (take n plain) random) x ⌝ }
 {
@@ -72,6 +75,7 @@ fn on_data(
 
 // Steps 8 and 9 of a message of at most 255 bytes.
 fn on_message(tag: Tag, k: Command, r: Reading, d: Decision, x: &[u8], random: [u8; 20]) -> Done
+    requires { ⌜ SpansFit r ⌝ }
     requires { ⌜ length (now x) ≤ 255 ⌝ }
     ensures { λ y. ⌜ Gives (onOpening tag k r d random (openingOf tag k (now (x .entry)) (d .mode))) y ⌝ }
 {
@@ -87,6 +91,7 @@ fn on_message(tag: Tag, k: Command, r: Reading, d: Decision, x: &[u8], random: [
 
 // A command, granted so, of which r are its file's settings and x the message.
 pub fn wrapped(tag: Tag, k: Command, r: Reading, d: Decision, x: &[u8], random: [u8; 20]) -> Done
+    requires { ⌜ SpansFit r ⌝ }
     ensures { λ y. ⌜ Gives (wrapped tag k r d (now (x .entry)) random) y ⌝ }
 {
     if 255 < x.len() {

@@ -6,7 +6,7 @@ use Rattle.cbc.specs.Cbc.{cbcOut}
 use Rattle.key_expansion.specs.Keys.{keyExpansion}
 use Rattle.sdm.specs.Tap.{tapIv}
 use Rattle.mirror.specs.Mirrors.{mirrorAt, stretch, encData}
-use Rattle.mirror.proofs.Laying.{enc-blocks, mirror-by}
+use Rattle.mirror.proofs.Laying.{enc-blocks, mirror-off}
 use borrow.Author.Needs.{needs}
 use Rattle.mirror.proofs.lay_enc.Statement.{statement}
 use Rattle.mirror.proofs.lay_enc.Tie as tie
@@ -48,7 +48,7 @@ returns c =
     ∙ ap (λ t. mirrorAt (a .s) t (a .file)) (enc-blocks w v (a .s .start) (a .s .size / 2) (a .stored) (omega (arith, c .before .before .before .before .before .before .pre)))
 
 returns-2 : tie.Need-returns-2
-returns-2 c = let a = c .before .args in sym (mirror-by (a .s) _ (a .file) (c .if1 .left))
+returns-2 c = let a = c .before .args in sym (mirror-off (a .s) _ (a .file) (c .if1 .left))
 
 pub lay-enc-spec : {M : Type 1} → statement M
 lay-enc-spec =

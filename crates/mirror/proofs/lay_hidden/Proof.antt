@@ -27,7 +27,7 @@ returns c =
     c .lay-hex .ensures
     ∙ ap (λ t. mirrorAt (a .s) t (a .file))
     (c .before .before .before .before .tap-encrypt .ensures .text
-    ∙ ap (λ b. pick b (cbcOut (keyExpansion (a .key)) (tapIv (a .key) (a .counter)) x) x) (eq-eqb (length x % 16) 0 (c .before .before .before .before .before .before .before .pre)))
+    ∙ ap (λ b. pick b (cbcOut (keyExpansion (a .key)) (tapIv (a .key) (a .counter)) x) x) (eq-eqb (length x % 16) 0 (c .before .before .before .before .before .before .before .pre .0)))
 
 pub lay-hidden-spec : {M : Type 1} → statement M
 lay-hidden-spec = tie.close (tie.spec tap-encrypt-requires lay-hex-requires same-length returns)

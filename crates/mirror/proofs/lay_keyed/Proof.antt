@@ -1,6 +1,7 @@
 use mathlib.Core.Path.{ap, ap₂, _∙_}
 use Rattle.cmac.specs.Cmac.{mac}
 use Rattle.mirror.specs.Mirrors.{mirrorAt, stretch, encData, withEnc, withMac}
+use Rattle.mirror.proofs.Inside.{mac-inside}
 use borrow.Author.Needs.{needs}
 use Rattle.mirror.proofs.lay_keyed.Statement.{statement}
 use Rattle.mirror.proofs.lay_keyed.Tie as tie
@@ -12,7 +13,7 @@ lay-enc-requires : tie.Need-lay-enc-requires
 lay-enc-requires c κs = search needs
 
 lay-mac-requires : tie.Need-lay-mac-requires
-lay-mac-requires c κs = search needs
+lay-mac-requires c κs = let b = c .before .before .before .before .before in mac-inside (b .args .r) (b .pre)
 
 returns : tie.Need-returns
 unfolding withEnc withMac

@@ -1,6 +1,9 @@
-use mathlib.Core.Path.{ap₂, sym, _∙_}
+use mathlib.Core.Path.{_≡_, ap₂, sym, _∙_}
+use native.Mathlib.Omega.{arith}
+use lib.ListN.{length}
 use Rattle.mirror.specs.Mirrors.{mirrorAt, withUid, withCounter, withPicc}
-use Rattle.mirror.proofs.Laying.{mirror-by}
+use Rattle.mirror.proofs.Inside.{uid-inside, counter-inside, picc-inside}
+use Rattle.mirror.proofs.Laying.{mirror-off}
 use borrow.Author.Needs.{needs}
 use Rattle.mirror.proofs.lay_picc.Statement.{statement}
 use Rattle.mirror.proofs.lay_picc.Tie as tie
@@ -9,7 +12,11 @@ slice-aggregate-lay-hex : tie.Need-slice-aggregate-lay-hex
 slice-aggregate-lay-hex c = search needs
 
 lay-hex-requires : tie.Need-lay-hex-requires
-lay-hex-requires c κs = search needs
+lay-hex-requires c κs =
+    let b = c .before .before in
+    let g = b .good .1 .1 .0 .1 .1 in
+    let l : length (b .args .m .tap .uid) ≡ 7 = search needs in
+    λ h. let i = uid-inside (b .args .r) (b .pre) h in omega arith
 
 high-first-requires : tie.Need-high-first-requires
 high-first-requires c κs = search needs
@@ -18,7 +25,10 @@ slice-aggregate-lay-hex-2 : tie.Need-slice-aggregate-lay-hex-2
 slice-aggregate-lay-hex-2 c = search needs
 
 lay-hex-requires-2 : tie.Need-lay-hex-requires-2
-lay-hex-requires-2 c κs = search needs
+lay-hex-requires-2 c κs =
+    let b = c .before .before .before .before .before in
+    let l : length (c .before .high-first .result) ≡ 3 = search needs in
+    λ h. let i = counter-inside (b .args .r) (b .pre) h in omega arith
 
 picc-data-requires : tie.Need-picc-data-requires
 picc-data-requires c κs = search needs
@@ -27,7 +37,10 @@ slice-aggregate-lay-hex-3 : tie.Need-slice-aggregate-lay-hex-3
 slice-aggregate-lay-hex-3 c = search needs
 
 lay-hex-requires-3 : tie.Need-lay-hex-requires-3
-lay-hex-requires-3 c κs = search needs
+lay-hex-requires-3 c κs =
+    let b = c .before .before .before .before .before .before .before .before .before .before .before in
+    let l : length (c .before .picc-data .result) ≡ 16 = search needs in
+    λ h. let i = picc-inside (b .args .r) (b .pre) h in omega arith
 
 returns : tie.Need-returns
 unfolding withUid withCounter withPicc
@@ -46,7 +59,7 @@ returns-2 c =
     let a = c .before .before .before .before .before .before .before .args in
     c .before .lay-hex2 .ensures
     ∙ ap₂ (mirrorAt (a .r .counter)) (c .before .before .before .high-first .ensures) (c .before .before .before .before .lay-hex .ensures)
-    ∙ sym (mirror-by (a .r .picc) _ _ (c .if1 .left))
+    ∙ sym (mirror-off (a .r .picc) _ _ (c .if1 .left))
 
 pub lay-picc-spec : {M : Type 1} → statement M
 lay-picc-spec =

@@ -23,7 +23,7 @@ enum-known-o c = search needs
 on-data-requires : tie.Need-on-data-requires
 on-data-requires c κs =
     let b = c .before .before .before .before .before .before .before .before in
-    omega (arith, data-short (c .before .before .before .before .«open» .ensures) (b .pre) (omega arith) (c .before .o .given .1))
+    (b .pre .0, omega (arith, data-short (c .before .before .before .before .«open» .ensures) (b .pre .1) (omega arith) (c .before .o .given .1)))
 
 opened-status-requires : tie.Need-opened-status-requires
 opened-status-requires c κs = search needs
@@ -36,7 +36,7 @@ returns c =
     let b = c .before .before .before .before .before .before .before in
     let a = b .before .before .args in
     let opened = c .before .before .before .before .before .«open» .ensures in
-    gives-as (c .on-data .ensures) (on-opened (a .tag) (a .k) (a .r) (a .d) (a .random) opened (b .before .before .pre) (omega arith) (c .before .before .o .given .1)
+    gives-as (c .on-data .ensures) (on-opened (a .tag) (a .k) (a .r) (a .d) (a .random) opened (b .before .before .pre .1) (omega arith) (c .before .before .o .given .1)
     ∙ same-opening (a .tag) (a .k) (a .r) (a .d) (a .x .now) (a .random) (b .session-of .result) (b .session-of .ensures))
 
 returns-2 : tie.Need-returns-2
@@ -45,7 +45,7 @@ returns-2 c =
     let a = b .before .before .args in
     let opened = c .before .before .before .before .«open» .ensures in
     gives-as (c .refuse .ensures) (ap (refusal (a .tag)) (c .before .opened-status .ensures)
-    ∙ on-refused (a .tag) (a .k) (a .r) (a .d) (a .random) opened (b .before .before .pre) (omega arith) (c .before .before .match .keys2)
+    ∙ on-refused (a .tag) (a .k) (a .r) (a .d) (a .random) opened (b .before .before .pre .1) (omega arith) (c .before .before .match .keys2)
     ∙ same-opening (a .tag) (a .k) (a .r) (a .d) (a .x .now) (a .random) (b .session-of .result) (b .session-of .ensures))
 
 pub on-message-spec : {M : Type 1} → statement M

@@ -3,7 +3,10 @@ use Rattle.replies.proofs.Equal.{gives-as}
 use Rattle.order.specs.Commands.{dataOf}
 use Rattle.order.proofs.Placed.{data-inside}
 use Rattle.tag.specs.Way.{commanded, onOrder, answered}
-use mathlib.Core.Path.{sym, ap, _∙_}
+use mathlib.Core.Path.{_≡_, sym, ap, subst, _∙_}
+use lib.ListN.{length}
+use Rattle.spans.specs.Spans.{SpansFit}
+use Rattle.soundness.proofs.Inside.{sound-spans}
 use borrow.Author.Needs.{needs}
 use Rattle.tag.proofs.answering.answered.Statement.{statement}
 use Rattle.tag.proofs.answering.answered.Tie as tie
@@ -19,9 +22,15 @@ reading-for-requires c κs = search needs
 
 on-bytes-requires : tie.Need-on-bytes-requires
 on-bytes-requires c κs =
-    let a = c .before .before .before .before .before .before .args in
-    data-inside (a .c .now) (a .tag .pending .on) (a .tag .place .application) (a .tag .place .file) (c .before .before .o .given .0 .0)
-    (sym (c .before .before .before .before .command-in .ensures .0) ∙ c .before .before .o .given .1)
+    let b = c .before .before .before .before .before .before in
+    let a = b .args in
+    let k = c .before .before .o .given .0 .0 in
+    let g = b .good .0 .1 .1 .1 .0 .1 .1 .1 .1 .0 in
+    let l : length (a .tag .files .lens) ≡ 3 = search needs in (
+      subst SpansFit (sym (c .reading-for .ensures)) (sound-spans (a .tag) (b .pre .1) l (k .file)),
+      data-inside (a .c .now) (a .tag .pending .on) (a .tag .place .application) (a .tag .place .file) k
+          (sym (c .before .before .before .before .command-in .ensures .0) ∙ c .before .before .o .given .1),
+    )
 
 enum-known-o-2 : tie.Need-enum-known-o-2
 enum-known-o-2 c = search needs

@@ -4,6 +4,7 @@ use borrow.Author.Needs.{needs}
 use Rattle.base.specs.Decide.{pick}
 use Rattle.soundness.specs.declared.Judged.{Judged}
 use Rattle.soundness.specs.Sound.{judgedTag}
+use Rattle.soundness.proofs.Readings.{sound-judged}
 use Rattle.tag.specs.declared.Outcome.the-variants.{Replied, SmallRoom, WrongRandom, Unsound}
 use Rattle.tag.proofs.Calling.{small-room, wrong-random, sound-or-not, no-length, calls}
 use Rattle.tag.proofs.entry.call.Statement.{statement}
@@ -31,7 +32,10 @@ judge-tag-requires : tie.Need-judge-tag-requires
 judge-tag-requires c κs = search needs
 
 reply-requires : tie.Need-reply-requires
-reply-requires c κs = search needs
+reply-requires c κs =
+    let j = c .before .before .judge-tag .ensures in
+    let s = sym (ap (λ (x : Judged). x .sound) j ∙ sound-judged (c .before .before .before .before .before .before .before .before .args .tag)) ∙ c .before .if3 .taken in
+    (j, (s, (c .before .before .before .if2 .left, c .before .before .before .before .if1 .left)))
 
 same-length : tie.Need-same-length
 same-length c = search needs

@@ -29,7 +29,7 @@ returns c = let a = c .before .before .before .before .before .before .before .b
     (subst (λ x. Gives (answered (a .tag) (a .command .now) x)
     (c .before .before .before .before .before .before .answered .result))
     (c .before .before .before .before .before .before .before .before .put .ensures
-    ∙ laid-whole (a .random .now) _ (c .before .before .before .before .before .before .before .before .before .before .before .before .before .pre .1 .0))
+    ∙ laid-whole (a .random .now) _ (c .before .before .before .before .before .before .before .before .before .before .before .before .before .pre .1 .1 .0))
     (c .before .before .before .before .before .before .answered .ensures))
     (c .before .before .before .lay .ensures)
 

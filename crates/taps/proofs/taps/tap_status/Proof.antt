@@ -1,20 +1,15 @@
 -- `taps::taps::tap_status` meets its contract.
-use Rattle.base.proofs.Bytes.{tests}
 use Rattle.taps.specs.Taps.{tapStatus}
 use Rattle.taps.proofs.taps.tap_status.Statement.{statement}
 use Rattle.taps.proofs.taps.tap_status.Tie as tie
 
 returns : tie.Need-returns
 unfolding tapStatus
-returns c = search (tests, c .before .if1 .taken)
+returns c = rw (c .if1 .taken)
 
 returns-2 : tie.Need-returns-2
 unfolding tapStatus
-returns-2 c = search (tests, c .before .if1 .taken)
-
-returns-3 : tie.Need-returns-3
-unfolding tapStatus
-returns-3 c = rw (c .if1 .left)
+returns-2 c = rw (c .if1 .left)
 
 pub tap-status-spec : {M : Type 1} → statement M
-tap-status-spec = tie.close (tie.spec returns returns-2 returns-3)
+tap-status-spec = tie.close (tie.spec returns returns-2)
