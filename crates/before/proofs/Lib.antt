@@ -1,3 +1,0 @@
-pub mod Mirrors
-pub mod Taps
-pub mod Same

@@ -1,4 +1,0 @@
-pub mod Mirrors
-pub mod Taps
-pub mod Answers
-pub mod Same
