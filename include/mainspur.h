@@ -22,7 +22,7 @@ extern "C" {
 
 typedef __SIZE_TYPE__ mainspur_size;
 
-#define MAINSPUR_IMAGE_LENGTH 672 /* bytes of an image */
+#define MAINSPUR_IMAGE_LENGTH 684 /* bytes of an image */
 #define MAINSPUR_ROOM 258         /* bytes that a reply room must have at least */
 #define MAINSPUR_RANDOM 20        /* random bytes of a call */
 
@@ -31,10 +31,10 @@ typedef __SIZE_TYPE__ mainspur_size;
 #define MAINSPUR_WRONG_RANDOM 1002 /* refusal 2: not exactly 20 random bytes */
 #define MAINSPUR_UNSOUND 1003      /* refusal 3: the image holds no sound state */
 #define MAINSPUR_WRONG_UID 1004    /* refusal 4: UID not 7 bytes, or its first byte not 04 */
-#define MAINSPUR_WRONG_IMAGE 1005  /* an image of another length than 672; this comes before refusals 1 to 4 */
+#define MAINSPUR_WRONG_IMAGE 1005  /* an image of another length than 684; this comes before refusals 1 to 4 */
 #define MAINSPUR_NO_ROOM 1006      /* a room that the normal settings string does not fit in */
 
-/* 672. */
+/* 684. */
 mainspur_size mainspur_image_length(void);
 
 /* A fresh tag with a UID.

@@ -1,11 +1,12 @@
-//! Logs: two with right replies, and what is no log.
+//! Logs: three with right replies, the last with many later reads of a tap, and what is no log.
 
 use peer::log::{Log, Malformed};
 use peer::talk::{talk, Tally};
 
-const LOGS: [&str; 2] = [
-    include_str!("logs/talk-007.log"),
-    include_str!("logs/talk-029.log"),
+const LOGS: [&str; 3] = [
+    include_str!("logs/base-007.log"),
+    include_str!("logs/base-029.log"),
+    include_str!("logs/talk-004.log"),
 ];
 
 #[test]

@@ -32,8 +32,12 @@ impl Desk {
     }
 
     fn send(&mut self, command: &str) -> String {
+        self.send_with(command, &RANDOM)
+    }
+
+    fn send_with(&mut self, command: &str, random: &Random) -> String {
         let command = unhex(command).expect("hexadecimal");
-        hex(&self.tag.exchange(&command, &RANDOM))
+        hex(&self.tag.exchange(&command, random))
     }
 
     fn gives(&mut self, command: &str, reply: &str) {
@@ -584,6 +588,32 @@ fn taps_that_start_and_go_on() {
     assert_eq!(desk.tag.counter(), 9);
     desk.change(2, "4000E0C1F121200000430000430000");
     assert_eq!(desk.tag.counter(), 0);
+}
+
+/// 02, request 3: a tap's padding is drawn when it starts and used until it ends. The reads are cut
+/// inside PICCData, for UID and counter, UID alone, counter alone.
+#[test]
+fn padding_of_one_tap() {
+    for options in ["C1", "81", "41"] {
+        let mut desk = Desk::application();
+        desk.change(2, &format!("4000E0{options}F121200000430000430000"));
+        desk.gives("00A4000C02E104", "9000");
+        let data = |reply: String| reply[..reply.len() - 4].to_string();
+        let whole = data(desk.send_with(READ_2, &[1; 20]));
+        let front = data(desk.send_with("90AD0000070200000030000000", &[2; 20]));
+        let back = data(desk.send_with("90AD0000070230000000000000", &[3; 20]));
+        assert_eq!(front + &back, whole);
+        let other = data(desk.send_with(ISO_READ, &[5; 20]));
+        assert_ne!(other, whole);
+        let again = data(desk.send_with("00B0002800", &[4; 20]));
+        assert_eq!(again, other[80..]);
+        // the same counter and another padding: only PICCData and the code differ
+        let mut twin = Desk::application();
+        twin.change(2, &format!("4000E0{options}F121200000430000430000"));
+        let drawn = data(twin.send_with(READ_2, &[9; 20]));
+        assert_eq!(drawn[..64], whole[..64]);
+        assert_ne!(drawn[64..128], whole[64..128]);
+    }
 }
 
 #[test]

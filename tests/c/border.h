@@ -52,6 +52,12 @@ static inline int same(const byte *a, const byte *b, mainspur_size n) {
     return 1;
 }
 
+static inline int all_zero(const byte *s, mainspur_size n) {
+    for (mainspur_size i = 0; i < n; i++)
+        if (s[i]) return 0;
+    return 1;
+}
+
 static inline void copy(byte *to, const byte *from, mainspur_size n) {
     for (mainspur_size i = 0; i < n; i++) to[i] = from[i];
 }

@@ -1,6 +1,7 @@
 /* Plays a log through the image, with mainspur.h alone: a UID, then command, reply and random bytes, a line of hexadecimal
  * each, on standard input. Before the first exchange and after the last it tries every refusal, and that image and room
- * stay; before the log it judges stored lengths and plays part two on images with a counter in the pending part. Prints what differs, and last 'N exchanges, M differ'; the status is 1 where something differs. */
+ * stay; before the log it judges stored lengths and kept padding, and plays part two on images with a counter in the pending part. Prints what
+ * differs, and last 'N exchanges, M differ'; the status is 1 where something differs. */
 #include "border.h"
 
 static mainspur_size at;
@@ -54,16 +55,18 @@ static void call_refusals(const byte *image) {
     refused(image, IMAGE, 19, 257, MAINSPUR_SMALL_ROOM, "a room of 257 bytes before 19 random bytes");
     refused(image, IMAGE, 19, 258, MAINSPUR_WRONG_RANDOM, "19 random bytes");
     refused(image, IMAGE, 21, 258, MAINSPUR_WRONG_RANDOM, "21 random bytes");
-    refused(image, IMAGE - 1, 20, 258, MAINSPUR_WRONG_IMAGE, "an image of 671 bytes");
+    refused(image, IMAGE - 1, 20, 258, MAINSPUR_WRONG_IMAGE, "an image of 683 bytes");
     refused(image, 0, 19, 257, MAINSPUR_WRONG_IMAGE, "an image of no bytes, before the others");
-    unsound(image, 0, 2, "version 2");
+    refused(image, 672, 20, 258, MAINSPUR_WRONG_IMAGE, "an image of 672 bytes, as version 1 had");
+    unsound(image, 0, 1, "version 1");
+    unsound(image, 0, 3, "version 3");
     unsound(image, 1, 5, "a UID that starts 05");
     unsound(image, 593, 2, "a Boolean of 2");
     unsound(image, 671, 1, "a tap counter over 16,777,215");
     unsound(image, 665, 4, "file 4 selected");
     unsound(image, 505, 2, "a settings string of 2 bytes");
     copy(bad, image, IMAGE);
-    fill(bad + 593, 0, IMAGE - 593 - 4);
+    fill(bad + 593, 0, IMAGE - 593);
     bad[593] = 1; /* a session */
     bad[664] = 1; /* the application */
     bad[594] = 9;
@@ -78,7 +81,7 @@ static void fresh_refusals(void) {
     fill(blank, 0xA5, IMAGE);
     expect(mainspur_fresh(right, 6, image, IMAGE) == MAINSPUR_WRONG_UID, "a UID of 6 bytes");
     expect(mainspur_fresh(other, 7, image, IMAGE) == MAINSPUR_WRONG_UID, "a fresh UID that starts 05");
-    expect(mainspur_fresh(right, 7, image, IMAGE - 1) == MAINSPUR_WRONG_IMAGE, "a fresh image of 671 bytes");
+    expect(mainspur_fresh(right, 7, image, IMAGE - 1) == MAINSPUR_WRONG_IMAGE, "a fresh image of 683 bytes");
     expect(same(image, blank, IMAGE), "an image after a refused fresh tag");
     expect(mainspur_image_length() == IMAGE, "the length of an image");
 }
@@ -123,6 +126,31 @@ static void stored_lengths(void) {
     expect(mainspur_call(now, IMAGE, select, sizeof select, random, 20, room, BIG) == 2, "a stored length of 27");
     unsound(image, 506, 28, "a stored length of 28");
     unsound(image, 506, 255, "a stored length of 255");
+}
+
+/* 02, request 3: the twelve bytes of padding. Where no tap runs they are zeros, each of them; where one runs any will do, and an accepted
+ * read of that tap leaves the whole image as it is. */
+static void kept_padding(void) {
+    static const byte uid[7] = {4, 1, 2, 3, 4, 5, 6}, random[20] = {7}, read[] = {0x00, 0xB0, 0x00, 0x00, 0x00};
+    static const byte string[15] = {0x40, 0x00, 0xE0, 0xC1, 0xF1, 0x21, 0x20, 0, 0, 0x43, 0, 0, 0x43, 0, 0};
+    byte image[IMAGE], now[IMAGE], room[BIG];
+    expect(mainspur_fresh(uid, 7, image, IMAGE) == 0, "a fresh tag for the padding");
+    expect(all_zero(image + 672, 12), "the padding of a fresh tag");
+    copy(image + 451, string, 15);
+    image[506] = 15;
+    image[664] = 1; /* the application */
+    image[665] = 2; /* file 2 is selected */
+    for (int i = 672; i < IMAGE; i++) unsound(image, i, 1, "padding where no tap runs");
+    copy(now, image, IMAGE);
+    expect(mainspur_call(now, IMAGE, read, sizeof read, random, 20, room, BIG) == 258, "a read that starts a tap");
+    expect(same(now + 672, random, 12), "the padding that it draws");
+    image[666] = image[667] = 1; /* a tap runs, by ISOReadBinary */
+    fill(image + 672, 0xA5, 12);
+    copy(now, image, IMAGE);
+    expect(mainspur_call(now, IMAGE, read, sizeof read, random, 20, room, BIG) == 258, "a read of a tap that runs");
+    expect(same(now, image, IMAGE), "the image behind it");
+    expect(mainspur_call(now, IMAGE, read, 4, random, 20, room, BIG) == 2, "a read without Le");
+    expect(all_zero(now + 666, 2) && all_zero(now + 672, 12), "the padding where the tap has ended");
 }
 
 /* 01's example in file 2 with the MAC at 240: a read that mirrors shows it at the file's end. At 241 it would end behind the file, and
@@ -179,6 +207,7 @@ int main(void) {
     fresh_refusals();
     settings_strings();
     stored_lengths();
+    kept_padding();
     last_place();
     part_two(1);
     part_two(0);

@@ -228,9 +228,9 @@ fn change_key_zero(t: Tally) -> Tally {
     )
 }
 
-// Random bytes that start with a mirror's padding.
-fn random_of(padding: &[u8]) -> [u8; 20] {
-    let mut r = [0u8; 20];
+// The twelve bytes that a tap keeps, which start with a mirror's padding.
+fn kept(padding: &[u8]) -> [u8; 12] {
+    let mut r = [0u8; 12];
     base::put(padding, &mut r, 0);
     r
 }
@@ -245,7 +245,7 @@ fn tap_one() -> Tap {
 }
 
 fn first_picc_data(t: Tally) -> Tally {
-    let picc = sdm::picc_data([0u8; 16], tap_one(), random_of(&tap_values::PADDING_ONE));
+    let picc = sdm::picc_data([0u8; 16], tap_one(), kept(&tap_values::PADDING_ONE));
     compare(
         t,
         b"PICCData of the first tap",
@@ -272,7 +272,7 @@ fn tap_two() -> Tap {
 }
 
 fn second_picc_data(t: Tally) -> Tally {
-    let picc = sdm::picc_data([0u8; 16], tap_two(), random_of(&tap_values::PADDING_TWO));
+    let picc = sdm::picc_data([0u8; 16], tap_two(), kept(&tap_values::PADDING_TWO));
     compare(
         t,
         b"PICCData of the second tap",

@@ -10,9 +10,9 @@ use Rattle.base.specs.Bytes.{byteAt}
 use Rattle.state.specs.declared.Tag.{Tag}
 use Rattle.delivery.specs.Fresh.{blank}
 use Rattle.state.specs.State.{readingIn}
-use Rattle.soundness.specs.Sound.{rulesSound, keysSound, aloneSound, levelSound, soundTag}
+use Rattle.soundness.specs.Sound.{rulesSound, keysSound, aloneSound, paddingSound, levelSound, soundTag}
 use Rattle.image.specs.declared.Found.the-variants.{Whole, WrongLength, WrongVersion, NotABoolean}
-use Rattle.image.specs.Image.{tagIn}
+use Rattle.image.specs.Image.{imageVersion, tagIn}
 use Rattle.image.specs.Answers.{bitsAt, booleans, rightLength, whole, refusedAs, readIn}
 use Rattle.tag.specs.declared.Outcome.the-variants.{Replied, Unsound}
 use Rattle.tag.specs.Call.{outcomeOf}
@@ -34,7 +34,8 @@ other-uid t e =
     (fifth-false (rulesSound (t .files) 1) (rulesSound (t .files) 2) (rulesSound (t .files) 3) (leb (t .tap .counter) 16777215)
     (and (keysSound (t .live .on) (t .live .key) (t .pending .on) (t .pending .key))
     (and (aloneSound (t .tap .on) (t .live .on) (t .pending .on) (readingIn (t .files) 2 .settings .head .sdm))
-    (levelSound (t .place .application) (t .live .on) (t .pending .on) (t .tap .on) (t .place .file)))))
+    (and (paddingSound (t .tap .on) (t .tap .padding))
+    (levelSound (t .place .application) (t .live .on) (t .pending .on) (t .tap .on) (t .place .file))))))
 
 zeros-unsound : soundTag blank ≡ false
 unfolding blank
@@ -50,7 +51,7 @@ zeros-beside false b c t h = refl
 
 no-state : (s : List ℕ) → (readIn s .found ≡ Whole → ⊥) → stateIn s ≡ blank
 unfolding readIn
-no-state s h = zeros-beside (rightLength s) (eqb (byteAt s 0) 1) (bitsAt s booleans) (tagIn s) h
+no-state s h = zeros-beside (rightLength s) (eqb (byteAt s 0) imageVersion) (bitsAt s booleans) (tagIn s) h
 
 pub no-state-unsound : (s random room : List ℕ) → (readIn s .found ≡ Whole → ⊥) → 258 ≤ length room → length random ≡ 20
     → outcomeOf (stateIn s) random room ≡ Unsound

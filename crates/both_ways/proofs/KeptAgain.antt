@@ -10,12 +10,13 @@ use Rattle.image.specs.Answers.{whole}
 use Rattle.image.proofs.Shapes.{Shaped}
 use Rattle.keeping.specs.declared.Start.the-variants.{Ready}
 use Rattle.keeping.specs.declared.Begun.{Begun}
-use Rattle.keeping.specs.Keep.{startBy, keptBy, keptIn}
+use Rattle.keeping.specs.Keep.{earlier, startBy, keptBy, keptIn}
 use Rattle.both_ways.proofs.Roundtrip.{image-whole}
 
 -- a sound tag whose image was written is what the next run starts from
 pub kept-again : (t : Tag) → Shaped t → soundTag t ≡ true → _≡_ {A = Begun} (keptIn (imageOf t) (t .uid)) (record { start = Ready; tag = t })
 unfolding keptIn keptBy startBy
 kept-again t h e =
-    let w : _≡_ {A = Begun} (keptBy (whole t) (t .uid)) (record { start = Ready; tag = t }) = λ i. record { start = startBy Whole (e i) (same-refl (t .uid) i); tag = t } in
-    ap (λ r. keptBy r (t .uid)) (image-whole t h) ∙ w
+    let w : _≡_ {A = Begun} (keptBy (whole t) (earlier (imageOf t)) (t .uid)) (record { start = Ready; tag = t }) =
+    λ i. record { start = startBy Whole (earlier (imageOf t)) (e i) (same-refl (t .uid) i); tag = t } in
+    ap (λ r. keptBy r (earlier (imageOf t)) (t .uid)) (image-whole t h) ∙ w

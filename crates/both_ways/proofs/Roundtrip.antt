@@ -21,10 +21,10 @@ use Rattle.state.specs.declared.Tapping.{Tapping}
 use Rattle.state.specs.declared.Tag.{Tag}
 use Rattle.image.specs.declared.Found.{Found}
 use Rattle.image.specs.declared.Found.the-variants.{Whole, WrongLength, WrongVersion, NotABoolean}
-use Rattle.image.specs.Image.{join, bytesFrom, flagByte, flag, filePieces, secretPieces, livePieces, pendingPieces, placeBytes}
+use Rattle.image.specs.Image.{imageVersion, join, bytesFrom, flagByte, flag, filePieces, secretPieces, livePieces, pendingPieces, placeBytes}
 use Rattle.image.specs.Image.{tapPieces, tagPieces, imageOf, filesIn, secretsIn, liveIn, pendingIn, placeIn, tapIn, tagIn}
 use Rattle.image.specs.Answers.{bitsAt, booleans, rightLength, whole, refusedAs, readIn}
-use Rattle.image.proofs.Shapes.{FilesShaped, SecretsShaped, LiveShaped, PendingShaped, Shaped, file-widths, secret-widths, live-widths, pending-widths, tap-widths}
+use Rattle.image.proofs.Shapes.{FilesShaped, SecretsShaped, LiveShaped, PendingShaped, TapShaped, Shaped, file-widths, secret-widths, live-widths, pending-widths, tap-widths}
 use Rattle.image.proofs.Pieces.{lengths, sum, joined-length, piece, cut-join, bytes-from-length, bytes-from-bytes, bytes-from-one, bytes-from-tab, bytes-from-low}
 
 -- ---- from a state to its image and back
@@ -79,27 +79,29 @@ place-back : (p : Place) → placeIn (placeBytes p) ≡ p
 unfolding placeIn
 place-back p = λ i. record { application = flag-of-byte (p .application) i; file = p .file }
 
-tap-back : (t : Tapping) → t .counter < 4294967296 → tapIn (join (tapPieces t)) ≡ t
+tap-back : (t : Tapping) → TapShaped t → tapIn (join (tapPieces t)) ≡ t
 unfolding tapIn join
 tap-back t h =
+    let p = piece _ (tapPieces t) (tap-widths t h) in
     λ i. record {
       on = flag-of-byte (t .on) i;
       iso = flag-of-byte (t .iso) i;
-      counter = (ap number (piece _ (tapPieces t) (tap-widths t) 1) ∙ number-low 4 (t .counter) h) i;
+      counter = (ap number (p 1) ∙ number-low 4 (t .counter) (h .counter)) i;
+      padding = p 2 i;
     }
 
 module _ (t : Tag) (h : Shaped t) where
-  tag-widths : lengths (tagPieces t) ≡ 1 ∷ 7 ∷ 500 ∷ 85 ∷ 40 ∷ 31 ∷ 2 ∷ 6 ∷ []
+  tag-widths : lengths (tagPieces t) ≡ 1 ∷ 7 ∷ 500 ∷ 85 ∷ 40 ∷ 31 ∷ 2 ∷ 18 ∷ []
   tag-widths =
       let f = joined-length (filePieces (t .files)) _ (file-widths (t .files) (h .files)) in
       let s = joined-length (secretPieces (t .secrets)) _ (secret-widths (t .secrets) (h .secrets)) in
       let l = joined-length (livePieces (t .live)) _ (live-widths (t .live) (h .live)) in
       let p = joined-length (pendingPieces (t .pending)) _ (pending-widths (t .pending) (h .pending)) in
-      let q = joined-length (tapPieces (t .tap)) _ (tap-widths (t .tap)) in
+      let q = joined-length (tapPieces (t .tap)) _ (tap-widths (t .tap) (h .tap)) in
       λ i. 1 ∷ h .uid i ∷ f i ∷ s i ∷ l i ∷ p i ∷ 2 ∷ q i ∷ []
 
-  tag-piece : (k : ℕ) → bytesFrom (imageOf t) (sum (take k (1 ∷ 7 ∷ 500 ∷ 85 ∷ 40 ∷ 31 ∷ 2 ∷ 6 ∷ [])))
-      (getD (1 ∷ 7 ∷ 500 ∷ 85 ∷ 40 ∷ 31 ∷ 2 ∷ 6 ∷ []) k 0) ≡ getD (tagPieces t) k []
+  tag-piece : (k : ℕ) → bytesFrom (imageOf t) (sum (take k (1 ∷ 7 ∷ 500 ∷ 85 ∷ 40 ∷ 31 ∷ 2 ∷ 18 ∷ [])))
+      (getD (1 ∷ 7 ∷ 500 ∷ 85 ∷ 40 ∷ 31 ∷ 2 ∷ 18 ∷ []) k 0) ≡ getD (tagPieces t) k []
   unfolding imageOf
   tag-piece = piece _ (tagPieces t) tag-widths
 
@@ -114,7 +116,7 @@ module _ (t : Tag) (h : Shaped t) where
         live = (ap liveIn (tag-piece 4) ∙ live-back (t .live) (h .live)) i;
         pending = (ap pendingIn (tag-piece 5) ∙ pending-back (t .pending) (h .pending)) i;
         place = (ap placeIn (tag-piece 6) ∙ place-back (t .place)) i;
-        tap = (ap tapIn (tag-piece 7) ∙ tap-back (t .tap) (h .counter)) i;
+        tap = (ap tapIn (tag-piece 7) ∙ tap-back (t .tap) (h .tap)) i;
       }
 
   flag-in-image : (i n j k : ℕ) (b : Bool) → j < n → bytesFrom (imageOf t) i n ≡ getD (tagPieces t) k [] → byteAt (getD (tagPieces t) k []) j ≡ flagByte b
@@ -130,16 +132,16 @@ module _ (t : Tag) (h : Shaped t) where
         flag-in-image 633 31 0 5 (t .pending .on) (lit< tt) (tag-piece 5) refl,
         flag-in-image 633 31 1 5 (t .pending .first) (lit< tt) (tag-piece 5) refl,
         flag-in-image 664 2 0 6 (t .place .application) (lit< tt) (tag-piece 6) refl,
-        flag-in-image 666 6 0 7 (t .tap .on) (lit< tt) (tag-piece 7) refl,
-        flag-in-image 666 6 1 7 (t .tap .iso) (lit< tt) (tag-piece 7) refl,
+        flag-in-image 666 18 0 7 (t .tap .on) (lit< tt) (tag-piece 7) refl,
+        flag-in-image 666 18 1 7 (t .tap .iso) (lit< tt) (tag-piece 7) refl,
       )
       refl
 
-  pub image-length : length (imageOf t) ≡ 672
+  pub image-length : length (imageOf t) ≡ 684
   unfolding imageOf
   image-length = joined-length (tagPieces t) _ tag-widths
 
-  first-byte : byteAt (imageOf t) 0 ≡ 1
+  first-byte : byteAt (imageOf t) 0 ≡ imageVersion
   unfolding imageOf join
   first-byte = refl
 
@@ -147,7 +149,7 @@ module _ (t : Tag) (h : Shaped t) where
   pub image-whole : readIn (imageOf t) ≡ whole t
   unfolding readIn rightLength
   image-whole =
-      rw (eq-eqb (length (imageOf t)) 672 image-length, eq-eqb (byteAt (imageOf t) 0) 1 first-byte, image-bits) (ap whole image-read)
+      rw (eq-eqb (length (imageOf t)) 684 image-length, eq-eqb (byteAt (imageOf t) 0) imageVersion first-byte, image-bits) (ap whole image-read)
 
 -- ---- from bytes to a state and back
 byte-of-flag : (n : ℕ) → n ≤ 1 → flagByte (flag n) ≡ n
@@ -184,12 +186,12 @@ unfolding placeIn
 place-kept x l b =
     (λ i. byte-of-flag (byteAt x 0) b i ∷ byteAt x 1 ∷ []) ∙ sym (bytes-from-tab x 0 2 (omega arith)) ∙ ap (λ n. take n x) (sym l) ∙ take-length x
 
-tap-kept : (x : List ℕ) → length x ≡ 6 → AllBytes x → byteAt x 0 ≤ 1 → byteAt x 1 ≤ 1 → join (tapPieces (tapIn x)) ≡ x
+tap-kept : (x : List ℕ) → length x ≡ 18 → AllBytes x → byteAt x 0 ≤ 1 → byteAt x 1 ≤ 1 → join (tapPieces (tapIn x)) ≡ x
 unfolding tapIn
 tap-kept x l a b d =
     let head : flagByte (flag (byteAt x 0)) ∷ flagByte (flag (byteAt x 1)) ∷ [] ≡ bytesFrom x 0 2 =
     (λ i. byte-of-flag (byteAt x 0) b i ∷ byte-of-flag (byteAt x 1) d i ∷ []) ∙ sym (bytes-from-tab x 0 2 (omega arith)) in
-    (λ i. join (head i ∷ bytes-from-low x 2 4 a (omega arith) i ∷ [])) ∙ cut-join (2 ∷ 4 ∷ []) x (sym l)
+    (λ i. join (head i ∷ bytes-from-low x 2 4 a (omega arith) i ∷ bytesFrom x 6 12 ∷ [])) ∙ cut-join (2 ∷ 4 ∷ 12 ∷ []) x (sym l)
 
 bits-below : (s is : List ℕ) → bitsAt s is ≡ true → (k : ℕ) → k < length is → byteAt s (getD is k 0) ≤ 1
 unfolding bitsAt
@@ -218,19 +220,19 @@ low-byte s i n j h b = subst (λ m. m ≤ 1) (sym (bytes-from-one s i n j h)) b
 pub read-image : (s : List ℕ) → AllBytes s → readIn s .found ≡ Whole → imageOf (tagIn s) ≡ s
 unfolding readIn rightLength imageOf tagIn
 read-image s a e =
-    let w = none-refused (eqb (length s) 672) (eqb (byteAt s 0) 1) (bitsAt s booleans) (tagIn s) e in
-    let l : length s ≡ 672 = eqb-true (length s) 672 (and-left _ _ w) in
-    let w′ = and-right (eqb (length s) 672) _ w in
-    let v : byteAt s 0 ≡ 1 = eqb-true (byteAt s 0) 1 (and-left _ _ w′) in
-    let bits = bits-below s booleans (and-right (eqb (byteAt s 0) 1) _ w′) in
-    let version : 1 ∷ [] ≡ bytesFrom s 0 1 = (λ i. sym v i ∷ []) ∙ sym (bytes-from-tab s 0 1 (omega arith)) in
+    let w = none-refused (eqb (length s) 684) (eqb (byteAt s 0) imageVersion) (bitsAt s booleans) (tagIn s) e in
+    let l : length s ≡ 684 = eqb-true (length s) 684 (and-left _ _ w) in
+    let w′ = and-right (eqb (length s) 684) _ w in
+    let v : byteAt s 0 ≡ imageVersion = eqb-true (byteAt s 0) imageVersion (and-left _ _ w′) in
+    let bits = bits-below s booleans (and-right (eqb (byteAt s 0) imageVersion) _ w′) in
+    let version : imageVersion ∷ [] ≡ bytesFrom s 0 1 = (λ i. sym v i ∷ []) ∙ sym (bytes-from-tab s 0 1 (omega arith)) in
     let f = files-kept (bytesFrom s 8 500) (bytes-from-length s 8 500 (omega arith)) in
     let k = secrets-kept (bytesFrom s 508 85) (bytes-from-length s 508 85 (omega arith)) in
     let lv = live-kept (bytesFrom s 593 40) (bytes-from-length s 593 40 (omega arith)) (bytes-from-bytes s 593 40 a) (low-byte s 593 40 0 (lit< tt) (bits 0 (lit< tt))) in
     let pd = pending-kept (bytesFrom s 633 31) (bytes-from-length s 633 31 (omega arith)) (bytes-from-bytes s 633 31 a)
     (low-byte s 633 31 0 (lit< tt) (bits 1 (lit< tt))) (low-byte s 633 31 1 (lit< tt) (bits 2 (lit< tt))) in
     let pl = place-kept (bytesFrom s 664 2) (bytes-from-length s 664 2 (omega arith)) (low-byte s 664 2 0 (lit< tt) (bits 3 (lit< tt))) in
-    let tp = tap-kept (bytesFrom s 666 6) (bytes-from-length s 666 6 (omega arith)) (bytes-from-bytes s 666 6 a)
-    (low-byte s 666 6 0 (lit< tt) (bits 4 (lit< tt))) (low-byte s 666 6 1 (lit< tt) (bits 5 (lit< tt))) in
+    let tp = tap-kept (bytesFrom s 666 18) (bytes-from-length s 666 18 (omega arith)) (bytes-from-bytes s 666 18 a)
+    (low-byte s 666 18 0 (lit< tt) (bits 4 (lit< tt))) (low-byte s 666 18 1 (lit< tt) (bits 5 (lit< tt))) in
     (λ i. join (version i ∷ bytesFrom s 1 7 ∷ f i ∷ k i ∷ lv i ∷ pd i ∷ pl i ∷ tp i ∷ []))
-    ∙ cut-join (1 ∷ 7 ∷ 500 ∷ 85 ∷ 40 ∷ 31 ∷ 2 ∷ 6 ∷ []) s (sym l)
+    ∙ cut-join (1 ∷ 7 ∷ 500 ∷ 85 ∷ 40 ∷ 31 ∷ 2 ∷ 18 ∷ []) s (sym l)

@@ -26,7 +26,8 @@ withRules f n text len =
 
 -- Turning SDM on from off sets the tap counter to 0
 unfoldable pub recounted : Tapping → Bool → Bool → Tapping
-recounted t before after = record { on = t .on; iso = t .iso; counter = pick (and after (not before)) 0 (t .counter) }
+recounted t before after =
+    record { on = t .on; iso = t .iso; counter = pick (and after (not before)) 0 (t .counter); padding = t .padding }
 
 -- the tag with other files, where SDM of the file was on before and is on after
 unfoldable pub restrung : Tag → Bool → Bool → Files → Tag

@@ -42,10 +42,12 @@ fn recount(counter: u32, before: bool, after: bool) -> u32
 fn retap(t: Tapping, before: bool, after: bool) -> Tapping
     ensures { λ r. ⌜ r ≡ recounted t before after ⌝ }
 {
+    let padding = t.padding;
     Tapping {
         on: t.on,
         iso: t.iso,
         counter: recount(t.counter, before, after),
+        padding,
     }
 }
 

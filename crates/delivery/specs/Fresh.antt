@@ -9,11 +9,12 @@ use Rattle.base.specs.Decide.{pick, and}
 use Rattle.base.specs.Bytes.{byteAt}
 use Rattle.state.specs.declared.Files.{Files}
 use Rattle.state.specs.declared.Secrets.{Secrets}
+use Rattle.state.specs.declared.Tapping.{Tapping}
 use Rattle.state.specs.declared.Tag.{Tag}
 use Rattle.delivery.specs.declared.Birth.{Birth}
 use Rattle.delivery.specs.declared.Made.{Made}
 use Rattle.delivery.specs.declared.Made.the-variants.{Fresh, WrongUid}
-use Rattle.state.specs.State.{noLive, noPending}
+use Rattle.state.specs.State.{noLive, noPending, noPadding}
 
 -- file 1 as delivered, with nine zeros
 unfoldable pub container : List ℕ
@@ -43,6 +44,10 @@ deliveredFiles =
 abbrev pub noSecrets : Secrets
 noSecrets = record { keys = replicate 80 0; versions = replicate 5 0 }
 
+-- no tap has been: counter 0
+abbrev pub noTap : Tapping
+noTap = record { on = false; iso = false; counter = 0; padding = noPadding }
+
 -- every byte and number 0
 unfoldable pub blank : Tag
 blank =
@@ -53,7 +58,7 @@ blank =
       live = noLive;
       pending = noPending;
       place = record { application = false; file = 0 };
-      tap = record { on = false; iso = false; counter = 0 };
+      tap = noTap;
     }
 
 -- PICC level selected, keys and versions 0
@@ -66,7 +71,7 @@ freshTag uid =
       live = noLive;
       pending = noPending;
       place = record { application = false; file = 0 };
-      tap = record { on = false; iso = false; counter = 0 };
+      tap = noTap;
     }
 
 -- refusal 4: UID not 7 bytes, or first byte not 04

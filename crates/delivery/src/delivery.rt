@@ -67,6 +67,7 @@ fn zeroed() -> Tag
             on: false,
             iso: false,
             counter: 0,
+            padding: [0; 12],
         },
     }
 }

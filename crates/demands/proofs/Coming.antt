@@ -73,7 +73,7 @@ wrapped-bars c pending application =
     way Bars (eqb (orderStatus (byteAt c 1) (byteAt c 2) (byteAt c 3) pending) 0)
     (λ e. front-bars (byteAt c 1) (commandData c) application) (λ e. order-bars (byteAt c 1) (byteAt c 2) (byteAt c 3) pending)
 
-long-bars : Bars 0x6700
+pub long-bars : Bars 0x6700
 unfolding accepting
 long-bars = refl
 

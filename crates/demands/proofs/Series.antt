@@ -19,7 +19,7 @@ use Rattle.delivery.specs.Fresh.{deliveredFiles, freshTag}
 use Rattle.soundness.specs.Sound.{soundTag}
 use Rattle.replies.specs.Answer.{Answer, refusal, accepted, afterwards}
 use Rattle.file_parts.specs.Filing.{storedIso, withBytes}
-use Rattle.taps.specs.Taps.{shown, shownPart, tapRead}
+use Rattle.taps.specs.Taps.{readStatus, tapPart, tapRead}
 use Rattle.auth.specs.Parts.{begun}
 use Rattle.part_two.specs.PartTwo.{enteredFirst, enteredNext, entered}
 use Rattle.change_settings.specs.ChangeSettings.{withRules, restrung}
@@ -50,7 +50,7 @@ unfolding accepted refusal endedOf afterwards talking
 keeps-accepted t u n e m d = way (Keeps t n) (overlong m (length d)) (λ z. e) (λ z. e)
 
 keeps-kinds : (t : Tag) (c random : List ℕ) (n : ℕ) → and (eqb (byteAt c 0) 0x90) (eqb (byteAt c 1) 0x5F) ≡ false → Kinds t c random (Keeps t n)
-unfolding refusal endedOf begun entered enteredFirst enteredNext talking keyed afterwards filed withBytes tapRead shownPart tapped storedIso moved selectedFile rulesOf placed
+unfolding refusal endedOf begun entered enteredFirst enteredNext talking keyed afterwards filed withBytes tapRead tapPart tapped storedIso moved selectedFile rulesOf placed
 keeps-kinds t c random n other =
     record {
       refuses = λ s. refl;
@@ -64,7 +64,7 @@ keeps-kinds t c random n other =
       restrings = λ m p mode s g. absurd (not-both (sym other ∙ sent s));
       taps =
           λ m iso at count s l p f.
-          way (Keeps t n) (eqb (shown t (readingIn (t .files) m) iso random .status) 0) (λ z. refl) (λ z. refl);
+          way (Keeps t n) (eqb (readStatus (t .tap) (readingIn (t .files) m) iso) 0) (λ z. refl) (λ z. refl);
       reads-iso = λ m at count. refl;
       moves = λ application. refl;
       selects = λ m h. way (Keeps t n) (t .place .application) (λ e. refl) (λ e. refl);

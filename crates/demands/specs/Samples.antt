@@ -11,7 +11,7 @@ use Rattle.fields.specs.Normal.{normal}
 use Rattle.rules.specs.Rules.{meets}
 use Rattle.state.specs.declared.Tag.{Tag}
 use Rattle.state.specs.State.{rulesOf, endedOf, filed}
-use Rattle.delivery.specs.Fresh.{freshTag}
+use Rattle.delivery.specs.Fresh.{noTap, freshTag}
 use Rattle.soundness.specs.Sound.{soundTag}
 use Rattle.replies.specs.Answer.{Answer}
 use Rattle.details.specs.Details.{settingsReply}
@@ -57,7 +57,7 @@ tagOf s =
             counter = 0;
           };
       place = record { application = s .application; file = 0 };
-      tap = record { on = false; iso = false; counter = 0 };
+      tap = noTap;
     }
 
 -- in the application, with a session or not

@@ -255,8 +255,8 @@ pub crc-of-determined : (s : List ℕ) → Determined (λ (r : List ℕ). r ≡ 
 crc-of-determined s = once
 
 -- ---- sdm
-pub picc-data-determined : (key : List ℕ) (t : Tap) (random : List ℕ) → Determined (λ (r : List ℕ). r ≡ piccData key t random)
-picc-data-determined key t random = once
+pub picc-data-determined : (key : List ℕ) (t : Tap) (padding : List ℕ) → Determined (λ (r : List ℕ). r ≡ piccData key t padding)
+picc-data-determined key t padding = once
 
 pub tap-encrypt-determined : (key : List ℕ) (counter : ℕ) (text : List ℕ)
     → DeterminedIn (λ (r : Bool) (new : List ℕ). Hides key counter text r new)

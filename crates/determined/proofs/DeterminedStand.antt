@@ -12,7 +12,7 @@ use Rattle.settings.specs.Answers.{judged, verdictWord}
 use Rattle.normalising.specs.Answers.{normalNumber, normalRoom, normalised}
 use Rattle.state.specs.declared.Tag.{Tag}
 use Rattle.image.specs.Answers.{bitsAt, booleans, foundNumber, imageIn, readIn, rightLength, storedIn, storedNumber}
-use Rattle.image.specs.Image.{imageLength}
+use Rattle.image.specs.Image.{imageVersion, imageLength}
 use Rattle.image.specs.declared.Read.{Read}
 use Rattle.image.specs.declared.Stored.{Stored}
 use Rattle.making.specs.Making.{Makes}
@@ -64,7 +64,7 @@ make-determined uid state r q new other p h = twice r q new other (p .number, p 
 -- ---- restoring
 pub from-image-determined : (s : List ℕ)
     → Determined (λ (r : Read). (r ≡ readIn s)
-    × (foundNumber (r .found) ≡ pick (rightLength s) (pick (and (eqb (byteAt s 0) 1) (bitsAt s booleans)) 0 1003) 1005))
+    × (foundNumber (r .found) ≡ pick (rightLength s) (pick (and (eqb (byteAt s 0) imageVersion) (bitsAt s booleans)) 0 1003) 1005))
 from-image-determined s r q p h = once r q (p .0) (h .0)
 
 -- ---- playing

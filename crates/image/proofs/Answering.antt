@@ -9,7 +9,7 @@ use Rattle.base.specs.Bytes.{byteAt}
 use Rattle.state.specs.declared.Tag.{Tag}
 use Rattle.image.specs.declared.Found.the-variants.{WrongLength, WrongVersion, NotABoolean}
 use Rattle.image.specs.declared.Read.{Read}
-use Rattle.image.specs.Image.{tagIn}
+use Rattle.image.specs.Image.{imageVersion, tagIn}
 use Rattle.image.specs.Answers.{foundNumber, bitsAt, booleans, rightLength, whole, refusedAs, readIn}
 
 found-by : (long version bits : Bool) (t : Tag)
@@ -22,11 +22,11 @@ found-by false version bits t = refl
 
 -- 1005 for another length, 1003 for another version or a Boolean over 1, else 0
 found-number : (s : List ℕ)
-    → foundNumber (readIn s .found) ≡ pick (rightLength s) (pick (and (eqb (byteAt s 0) 1) (bitsAt s booleans)) 0 1003) 1005
+    → foundNumber (readIn s .found) ≡ pick (rightLength s) (pick (and (eqb (byteAt s 0) imageVersion) (bitsAt s booleans)) 0 1003) 1005
 unfolding readIn
-found-number s = found-by (rightLength s) (eqb (byteAt s 0) 1) (bitsAt s booleans) (tagIn s)
+found-number s = found-by (rightLength s) (eqb (byteAt s 0) imageVersion) (bitsAt s booleans) (tagIn s)
 
 -- what is read, with its number
 pub reads : (s : List ℕ) (r : Read) → r ≡ readIn s
-    → (r ≡ readIn s) × (foundNumber (r .found) ≡ pick (rightLength s) (pick (and (eqb (byteAt s 0) 1) (bitsAt s booleans)) 0 1003) 1005)
+    → (r ≡ readIn s) × (foundNumber (r .found) ≡ pick (rightLength s) (pick (and (eqb (byteAt s 0) imageVersion) (bitsAt s booleans)) 0 1003) 1005)
 reads s r e = (e, ap (λ (x : Read). foundNumber (x .found)) e ∙ found-number s)

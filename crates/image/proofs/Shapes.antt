@@ -35,13 +35,17 @@ pub record PendingShaped (p : Pending) : Type 0 where
   pub ti : length (p .ti) ≡ 4
   pub counter : p .counter < 65536
 
+pub record TapShaped (t : Tapping) : Type 0 where
+  pub counter : t .counter < 4294967296
+  pub padding : length (t .padding) ≡ 12
+
 pub record Shaped (t : Tag) : Type 0 where
   pub uid : length (t .uid) ≡ 7
   pub files : FilesShaped (t .files)
   pub secrets : SecretsShaped (t .secrets)
   pub live : LiveShaped (t .live)
   pub pending : PendingShaped (t .pending)
-  pub counter : t .tap .counter < 4294967296
+  pub tap : TapShaped (t .tap)
 
 -- ---- the widths
 pub file-widths : (f : Files) (h : FilesShaped f) → lengths (filePieces f) ≡ 416 ∷ 81 ∷ 3 ∷ []
@@ -58,6 +62,6 @@ pub pending-widths : (l : Pending) (h : PendingShaped l) → lengths (pendingPie
 unfolding low
 pending-widths l h = λ i. 3 ∷ h .rnd i ∷ h .cap i ∷ h .ti i ∷ 2 ∷ []
 
-pub tap-widths : (t : Tapping) → lengths (tapPieces t) ≡ 2 ∷ 4 ∷ []
+pub tap-widths : (t : Tapping) (h : TapShaped t) → lengths (tapPieces t) ≡ 2 ∷ 4 ∷ 12 ∷ []
 unfolding low
-tap-widths t = refl
+tap-widths t h = λ i. 2 ∷ 4 ∷ h .padding i ∷ []

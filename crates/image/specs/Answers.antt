@@ -13,7 +13,7 @@ use Rattle.image.specs.declared.Found.the-variants.{Whole, WrongLength, 
 use Rattle.image.specs.declared.Read.{Read}
 use Rattle.image.specs.declared.Stored.{Stored}
 use Rattle.image.specs.declared.Stored.the-variants.{Written, OtherLength}
-use Rattle.image.specs.Image.{imageLength, imageOf, tagIn}
+use Rattle.image.specs.Image.{imageVersion, imageLength, imageOf, tagIn}
 
 -- Numbers of the house, those that the C border answers: 0 for a state, 1005 for another length, and 1000 with refusal 3's number
 -- for bytes of the right length that hold none.
@@ -51,7 +51,7 @@ refusedAs f = record { found = f; tag = blank }
 unfoldable pub readIn : List ℕ → Read
 readIn s =
     pick (rightLength s)
-    (pick (eqb (byteAt s 0) 1) (pick (bitsAt s booleans) (whole (tagIn s)) (refusedAs NotABoolean)) (refusedAs WrongVersion))
+    (pick (eqb (byteAt s 0) imageVersion) (pick (bitsAt s booleans) (whole (tagIn s)) (refusedAs NotABoolean)) (refusedAs WrongVersion))
     (refusedAs WrongLength)
 
 -- an image is written over one of its length, and nothing else

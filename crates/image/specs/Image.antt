@@ -14,6 +14,10 @@ use Rattle.state.specs.declared.Place.{Place}
 use Rattle.state.specs.declared.Tapping.{Tapping}
 use Rattle.state.specs.declared.Tag.{Tag}
 
+-- version 1, of 672 bytes, had no padding
+abbrev pub imageVersion : ℕ
+imageVersion = 2
+
 -- pieces one behind the other
 unfoldable pub join : List (List ℕ) → List ℕ
 join [] = []
@@ -47,19 +51,19 @@ abbrev pub placeBytes : Place → List ℕ
 placeBytes p = flagByte (p .application) ∷ p .file ∷ []
 
 abbrev pub tapPieces : Tapping → List (List ℕ)
-tapPieces t = (flagByte (t .on) ∷ flagByte (t .iso) ∷ []) ∷ low 4 (t .counter) ∷ []
+tapPieces t = (flagByte (t .on) ∷ flagByte (t .iso) ∷ []) ∷ low 4 (t .counter) ∷ t .padding ∷ []
 
 abbrev pub tagPieces : Tag → List (List ℕ)
 tagPieces t =
-    (1 ∷ []) ∷ t .uid ∷ join (filePieces (t .files)) ∷ join (secretPieces (t .secrets)) ∷ join (livePieces (t .live))
+    (imageVersion ∷ []) ∷ t .uid ∷ join (filePieces (t .files)) ∷ join (secretPieces (t .secrets)) ∷ join (livePieces (t .live))
     ∷ join (pendingPieces (t .pending)) ∷ placeBytes (t .place) ∷ join (tapPieces (t .tap)) ∷ []
 
 unfoldable pub imageOf : Tag → List ℕ
 imageOf t = join (tagPieces t)
 
--- 1, 7, 500, 85, 40, 31, 2 and 6
+-- 1, 7, 500, 85, 40, 31, 2 and 18
 abbrev pub imageLength : ℕ
-imageLength = 672
+imageLength = 684
 
 -- ---- reading
 unfoldable pub filesIn : List ℕ → Files
@@ -95,7 +99,8 @@ unfoldable pub placeIn : List ℕ → Place
 placeIn s = record { application = flag (byteAt s 0); file = byteAt s 1 }
 
 unfoldable pub tapIn : List ℕ → Tapping
-tapIn s = record { on = flag (byteAt s 0); iso = flag (byteAt s 1); counter = number (bytesFrom s 2 4) }
+tapIn s =
+    record { on = flag (byteAt s 0); iso = flag (byteAt s 1); counter = number (bytesFrom s 2 4); padding = bytesFrom s 6 12 }
 
 unfoldable pub tagIn : List ℕ → Tag
 tagIn s =
@@ -106,5 +111,5 @@ tagIn s =
       live = liveIn (bytesFrom s 593 40);
       pending = pendingIn (bytesFrom s 633 31);
       place = placeIn (bytesFrom s 664 2);
-      tap = tapIn (bytesFrom s 666 6);
+      tap = tapIn (bytesFrom s 666 18);
     }

@@ -1,4 +1,4 @@
-// A tag's state as an image of 672 bytes, a version byte first (docs/IMAGE.md): what crosses the C border. `storing` writes it, `restoring` reads it.
+// A tag's state as an image of 684 bytes, a version byte first (docs/IMAGE.md): what crosses the C border. `storing` writes it, `restoring` reads it.
 ghost use mathlib.Core.Path.{_≡_};
 ghost use Rattle.image.specs.Image.{imageLength};
 use state::Tag;
@@ -27,5 +27,5 @@ pub enum Stored {
 pub fn image_length() -> usize
     ensures { λ r. ⌜ r ≡ imageLength ⌝ }
 {
-    672
+    684
 }

@@ -4,7 +4,8 @@ use mathlib.Core.List.{List}
 use mathlib.Core.Path.{_≡_}
 use Prim.Native.Nat.{ℕ}
 use lib.Dec.{eqb}
-use Rattle.base.specs.Decide.{pick}
+use lib.ListN.{length}
+use Rattle.base.specs.Decide.{pick, and}
 use Rattle.base.specs.Bytes.{byteAt, same}
 use Rattle.soundness.specs.Sound.{soundTag}
 use Rattle.delivery.specs.Fresh.{rightUid, born}
@@ -14,10 +15,10 @@ use Rattle.delivery.specs.declared.Birth.{Birth}
 use Rattle.image.specs.declared.Found.{Found}
 use Rattle.image.specs.declared.Found.the-variants.{Whole, WrongLength, WrongVersion, NotABoolean}
 use Rattle.image.specs.declared.Read.{Read}
-use Rattle.image.specs.Image.{tagIn}
+use Rattle.image.specs.Image.{imageVersion, tagIn}
 use Rattle.image.specs.Answers.{bitsAt, booleans, rightLength, readIn}
 use Rattle.keeping.specs.declared.Start.{Start}
-use Rattle.keeping.specs.declared.Start.the-variants.{Ready, OtherLength, OtherVersion, NotABit, Unsound, OtherUid, NoUid, Unread}
+use Rattle.keeping.specs.declared.Start.the-variants.{Ready, OtherLength, OtherVersion, NotABit, Unsound, OtherUid, NoUid, Unread, EarlierVersion}
 use Rattle.keeping.specs.declared.Begun.{Begun}
 
 -- numbers of this house
@@ -30,6 +31,7 @@ startNumber Unsound = 4
 startNumber OtherUid = 5
 startNumber NoUid = 6
 startNumber Unread = 7
+startNumber EarlierVersion = 8
 
 -- a fresh tag, where the UID is one
 unfoldable pub freshStart : Made → Start
@@ -43,26 +45,31 @@ pub record Starts (uid : List ℕ) (r : Begun) : Type 0 where
   pub number : startNumber (r .start) ≡ pick (rightUid uid) 0 6
   pub told : r ≡ anewBy (born uid)
 
--- what was found in a file: a whole image must hold a sound state, and that of the plan's tag
-unfoldable pub startBy : Found → Bool → Bool → Start
-startBy WrongLength sound mine = OtherLength
-startBy WrongVersion sound mine = OtherVersion
-startBy NotABoolean sound mine = NotABit
-startBy Whole sound mine = pick sound (pick mine Ready OtherUid) Unsound
+-- an image of version 1: 672 bytes that begin with 01
+unfoldable pub earlier : List ℕ → Bool
+earlier s = and (eqb (length s) 672) (eqb (byteAt s 0) 1)
 
-unfoldable pub keptBy : Read → List ℕ → Begun
-keptBy r uid = record { start = startBy (r .found) (soundTag (r .tag)) (same uid (r .tag .uid)); tag = r .tag }
+-- what was found in a file: a whole image must hold a sound state, and that of the plan's tag
+unfoldable pub startBy : Found → Bool → Bool → Bool → Start
+startBy WrongLength old sound mine = pick old EarlierVersion OtherLength
+startBy WrongVersion old sound mine = OtherVersion
+startBy NotABoolean old sound mine = NotABit
+startBy Whole old sound mine = pick sound (pick mine Ready OtherUid) Unsound
+
+unfoldable pub keptBy : Read → Bool → List ℕ → Begun
+keptBy r old uid = record { start = startBy (r .found) old (soundTag (r .tag)) (same uid (r .tag .uid)); tag = r .tag }
 
 -- what a file's bytes give a plan for the tag with a UID to start from
 unfoldable pub keptIn : List ℕ → List ℕ → Begun
-keptIn s uid = keptBy (readIn s) uid
+keptIn s uid = keptBy (readIn s) (earlier s) uid
 
 -- the same by number
 unfoldable pub keptCase : List ℕ → List ℕ → ℕ
 keptCase s uid =
     pick (rightLength s)
-    (pick (eqb (byteAt s 0) 1)
-    (pick (bitsAt s booleans) (pick (soundTag (tagIn s)) (pick (same uid (tagIn s .uid)) 0 5) 4) 3) 2) 1
+    (pick (eqb (byteAt s 0) imageVersion)
+    (pick (bitsAt s booleans) (pick (soundTag (tagIn s)) (pick (same uid (tagIn s .uid)) 0 5) 4) 3) 2)
+    (pick (earlier s) 8 1)
 
 pub record Keeps (s uid : List ℕ) (r : Begun) : Type 0 where
   pub number : startNumber (r .start) ≡ keptCase s uid

@@ -1,6 +1,6 @@
 // What is kept of a tag between runs: what a file's bytes give a run to start from.
 ghost use mathlib.Core.Path.{_≡_};
-ghost use Rattle.keeping.specs.Keep.{freshStart, Starts, startBy, Keeps};
+ghost use Rattle.keeping.specs.Keep.{freshStart, Starts, earlier, startBy, Keeps};
 use delivery::Made;
 use image::Found;
 use state::Tag;
@@ -15,6 +15,7 @@ pub enum Start {
     OtherUid,
     NoUid,
     Unread,
+    EarlierVersion,
 }
 
 // The tag is the kept one where it is ready.
@@ -43,12 +44,27 @@ pub fn anew(uid: &[u8; 7]) -> Begun
     Begun { start, tag }
 }
 
+// Whether the bytes are an image of version 1.
+fn is_earlier(s: &[u8]) -> bool
+    ensures { λ r. ⌜ r ≡ earlier (now (s .entry)) ⌝ }
+{
+    if s.len() == 672 {
+        return base::at(s, 0) == 1;
+    }
+    false
+}
+
 // A whole image must hold a sound state of the tag that the plan is for.
-fn judged(found: Found, sound: bool, mine: bool) -> Start
-    ensures { λ r. ⌜ r ≡ startBy found sound mine ⌝ }
+fn judged(found: Found, old: bool, sound: bool, mine: bool) -> Start
+    ensures { λ r. ⌜ r ≡ startBy found old sound mine ⌝ }
 {
     match found {
-        Found::WrongLength => Start::OtherLength,
+        Found::WrongLength => {
+            if old {
+                return Start::EarlierVersion;
+            }
+            Start::OtherLength
+        }
         Found::WrongVersion => Start::OtherVersion,
         Found::NotABoolean => Start::NotABit,
         Found::Whole => {
@@ -73,6 +89,6 @@ pub fn kept(s: &[u8], uid: &[u8; 7]) -> Begun
     let u = tag.uid;
     let sound = soundness::sound(tag);
     let mine = base::alike(uid, &u);
-    let start = judged(found, sound, mine);
+    let start = judged(found, is_earlier(s), sound, mine);
     Begun { start, tag }
 }

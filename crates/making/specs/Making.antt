@@ -10,7 +10,7 @@ use Rattle.delivery.specs.Fresh.{born, madeNumber}
 use Rattle.image.specs.Image.{imageOf}
 use Rattle.image.specs.Answers.{rightLength}
 
--- an image of another length than 672
+-- an image of another length than 684
 abbrev pub wrongImage : ℕ
 wrongImage = 1005
 

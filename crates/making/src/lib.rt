@@ -1,4 +1,4 @@
-// A fresh tag in an image of 672 bytes, by numbers.
+// A fresh tag in an image of 684 bytes, by numbers.
 ghost use Rattle.making.specs.Making.{Makes};
 use delivery::Made;
 
@@ -6,7 +6,7 @@ use delivery::Made;
 pub fn make(uid: &[u8], state: &mut [u8]) -> usize
     ensures { λ r. ⌜ Makes (now (uid .entry)) (now (state .entry)) r (now (state .exit)) ⌝ }
 {
-    if state.len() != 672 {
+    if state.len() != 684 {
         return 1005;
     }
     let b = delivery::fresh(uid);

@@ -96,11 +96,11 @@ module _ (r : Reading) (w : SpansFit r) (m : Mirror) (u : length (m .tap .uid) �
   unfolding highFirst
   counter-room e = let h = counter-inside r w e in omega arith
 
-  pub picc-room : Room (r .picc) (piccData (m .«meta_key») (m .tap) (m .random))
+  pub picc-room : Room (r .picc) (piccData (m .«meta_key») (m .tap) (m .padding))
   unfolding piccData
   picc-room e =
       let h = picc-inside r w e in
-      omega (arith, cipher-length (keyExpansion (m .«meta_key»)) (piccText (m .tap) (m .random)))
+      omega (arith, cipher-length (keyExpansion (m .«meta_key»)) (piccText (m .tap) (m .padding)))
 
   pub enc-room : (key : List ℕ) (counter : ℕ) (file : List ℕ) → Room (r .enc) (encData key counter (r .enc) file)
   unfolding encData cbcOut

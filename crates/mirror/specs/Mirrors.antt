@@ -34,7 +34,7 @@ withCounter r m file = mirrorAt (r .counter) (highFirst (m .tap .counter)) file
 
 -- 9.3.4: PICCData, under SDMMetaReadKey
 unfoldable pub withPicc : Reading → Mirror → List ℕ → List ℕ
-withPicc r m file = mirrorAt (r .picc) (piccData (m .«meta_key») (m .tap) (m .random)) file
+withPicc r m file = mirrorAt (r .picc) (piccData (m .«meta_key») (m .tap) (m .padding)) file
 
 -- 9.3.6: SDMENCFileData: the first half of its span of StaticFileData, the file as stored; CBC, under SesSDMFileReadENCKey
 unfoldable pub encData : List ℕ → ℕ → Span → List ℕ → List ℕ

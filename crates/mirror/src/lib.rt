@@ -14,12 +14,12 @@ use sdm::Tap;
 use spans::Reading;
 use spans::Span;
 
-// What a tap mirrors and with which keys.
+// What a tap mirrors, with which keys and which padding.
 pub struct Mirror {
     pub tap: Tap,
     pub meta_key: [u8; 16],
     pub file_key: [u8; 16],
-    pub random: [u8; 20],
+    pub padding: [u8; 12],
 }
 
 // Whether one holds.
@@ -69,8 +69,8 @@ fn lay_picc(file: [u8; 256], r: Reading, m: Mirror) -> [u8; 256]
     let g = lay_hex(f, r.counter, &c);
     if r.picc.present {
         let key = m.meta_key;
-        let random = m.random;
-        let p = sdm::picc_data(key, m.tap, random);
+        let padding = m.padding;
+        let p = sdm::picc_data(key, m.tap, padding);
         return lay_hex(g, r.picc, &p);
     }
     g

@@ -50,18 +50,18 @@ module _ (t : Tag) (s c random room : List ℕ) (d : Called) (s′ room′ : Lis
       }
 
   -- a reply
-  pub replies : d .outcome ≡ Replied → length s ≡ 672 → s′ ≡ imageIn (d .tag) s → Answers t s c random room (d .length) s′ room′
+  pub replies : d .outcome ≡ Replied → length s ≡ 684 → s′ ≡ imageIn (d .tag) s → Answers t s c random room (d .length) s′ room′
   replies e l q =
       let g : d ≡ replied (answered t c random) = k .told ∙ ap (λ o. byOutcome t (answered t c random) o) (outcome-was Replied e) in
       answers (d .length) Replied e (ap (λ z. z .length) g ∙ length-is (answered t c random) s)
       (image-laid (d .tag) s s′ l q ∙ ap (λ z. imageOf (z .tag)) g ∙ tag-is (answered t c random) s)
       (le-leb (d .length) 258 (k .short))
 
-pub wrong-plays : (s c random room : List ℕ) → (length s ≡ 672 → ⊥) → Plays s c random room 1005 s room
+pub wrong-plays : (s c random room : List ℕ) → (length s ≡ 684 → ⊥) → Plays s c random room 1005 s room
 wrong-plays s c random room h =
     record { number = rw (wrong s h) refl; kept = rw (wrong s h) refl; left = rw (wrong s h) refl; apart = rw (wrong s h) refl }
 
-pub plays : (s c random room : List ℕ) (r : ℕ) (s′ room′ : List ℕ) (t : Tag) → length s ≡ 672 → t ≡ stateIn s
+pub plays : (s c random room : List ℕ) (r : ℕ) (s′ room′ : List ℕ) (t : Tag) → length s ≡ 684 → t ≡ stateIn s
     → Answers t s c random room r s′ room′ → Plays s c random room r s′ room′
 plays s c random room r s′ room′ t l e h =
     let g = subst (λ x. Answers x s c random room r s′ room′) e h in

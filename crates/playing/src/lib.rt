@@ -1,4 +1,4 @@
-// What the tag in an image of 672 bytes answers to a command, by numbers.
+// What the tag in an image of 684 bytes answers to a command, by numbers.
 ghost use mathlib.Core.Path.{_≡_};
 ghost use lib.ListN.{length};
 ghost use Rattle.playing.specs.Answers.{Answers, Plays};
@@ -7,7 +7,7 @@ use tag::Outcome;
 
 // The answer to a command, with the next state laid over the image where there is a reply.
 fn answer(tag: Tag, state: &mut [u8], command: &[u8], random: &[u8], room: &mut [u8]) -> usize
-    requires { ⌜ length (now state) ≡ 672 ⌝ }
+    requires { ⌜ length (now state) ≡ 684 ⌝ }
     ensures { λ r. ⌜ Answers tag (now (state .entry)) (now (command .entry)) (now (random .entry)) (now (room .entry)) r (now (state .exit)) (now (room .exit)) ⌝ }
 {
     let called = tag::call(tag, command, random, room);
@@ -28,7 +28,7 @@ fn answer(tag: Tag, state: &mut [u8], command: &[u8], random: &[u8], room: &mut 
 pub fn play(state: &mut [u8], command: &[u8], random: &[u8], room: &mut [u8]) -> usize
     ensures { λ r. ⌜ Plays (now (state .entry)) (now (command .entry)) (now (random .entry)) (now (room .entry)) r (now (state .exit)) (now (room .exit)) ⌝ }
 {
-    if state.len() != 672 {
+    if state.len() != 684 {
         return 1005;
     }
     let read = restoring::from_image(state);

@@ -91,7 +91,7 @@ pub fn hold(name: &[u8]) -> i32 {
         );
         io::write_all(
             STDERR_FILENO,
-            b"rehearse: where no run has it: if it has 672 bytes, it is the tag that the stopped run left; copy it over the file without .new. Then remove it\n",
+            b"rehearse: where no run has it: if it has 684 bytes, it is the tag that the stopped run left; copy it over the file without .new. Then remove it\n",
         );
     } else {
         fail(name, b"nothing was rehearsed");
@@ -145,7 +145,7 @@ fn replaced(path: &[u8], name: &[u8], s: &[u8]) {
 
 // The tag's image goes to FILE.new, whole, and then to the file.
 pub fn store(fd: i32, path: &[u8], name: &[u8], tag: Tag) {
-    let mut s = [0u8; 672];
+    let mut s = [0u8; 684];
     storing::to_image(tag, &mut s);
     if written(fd, &s) {
         libc::close(fd);

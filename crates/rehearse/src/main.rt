@@ -22,7 +22,7 @@ struct Ran {
 
 // The tag of an open file. A byte more than an image has is read too, to see one that is too long.
 fn resumed(fd: i32, uid: &[u8; 7]) -> Begun {
-    let mut s = [0u8; 673];
+    let mut s = [0u8; 685];
     let n = io::read_full(fd, &mut s);
     libc::close(fd);
     keeping::kept(&s[..n], uid)
@@ -62,8 +62,12 @@ fn refused(path: &[u8], s: Start) {
 // Says why nothing is rehearsed.
 fn complain(path: &[u8], number: u64, s: Start) {
     match s {
-        Start::OtherLength => keep::refuse(path, b"it can't be read as an image of 672 bytes"),
-        Start::OtherVersion => keep::refuse(path, b"its version is not 1"),
+        Start::OtherLength => keep::refuse(path, b"it can't be read as an image of 684 bytes"),
+        Start::EarlierVersion => keep::refuse(
+            path,
+            b"this image is of an earlier version; docs/IMAGE.md says what to do with it",
+        ),
+        Start::OtherVersion => keep::refuse(path, b"its version is not 2"),
         Start::NoUid => show::tell(
             b"line #: it must be the tag's UID, 7 bytes in hexadecimal, the first of them 04; nothing was rehearsed\n",
             &[number],

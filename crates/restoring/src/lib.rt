@@ -3,6 +3,7 @@ ghost use mathlib.Core.Path.{_≡_};
 ghost use lib.Dec.{eqb};
 ghost use Rattle.base.specs.Decide.{pick, and};
 ghost use Rattle.base.specs.Bytes.{byteAt};
+ghost use Rattle.image.specs.Image.{imageVersion};
 ghost use Rattle.image.specs.Answers.{foundNumber, bitsAt, booleans, rightLength, readIn};
 use image::Found;
 use image::Read;
@@ -13,12 +14,12 @@ mod parts;
 pub fn from_image(s: &[u8]) -> Read
     ensures told { λ r. ⌜ r ≡ readIn (now (s .entry)) ⌝ }
     ensures number { λ r. ⌜ foundNumber (r .found)
-        ≡ pick (rightLength (now (s .entry))) (pick (and (eqb (byteAt (now (s .entry)) 0) 1) (bitsAt (now (s .entry)) booleans)) 0 1003) 1005 ⌝ }
+        ≡ pick (rightLength (now (s .entry))) (pick (and (eqb (byteAt (now (s .entry)) 0) imageVersion) (bitsAt (now (s .entry)) booleans)) 0 1003) 1005 ⌝ }
 {
-    if s.len() != 672 {
+    if s.len() != 684 {
         return parts::refused(Found::WrongLength);
     }
-    if base::at(s, 0) != 1 {
+    if base::at(s, 0) != 2 {
         return parts::refused(Found::WrongVersion);
     }
     if parts::bits_right(s) {

@@ -169,23 +169,34 @@ fn place_in(s: &[u8]) -> Place
     }
 }
 
+fn padding_in(s: &[u8], at: usize) -> [u8; 12]
+    requires { ⌜ at + 12 ≤ length (now s) ⌝ }
+    ensures { λ r. ⌜ r ≡ bytesFrom (now (s .entry)) at 12 ⌝ }
+{
+    let mut r = [0u8; 12];
+    base::put(&s[at..at + 12], &mut r, 0);
+    r
+}
+
 fn tap_in(s: &[u8]) -> Tapping
-    requires { ⌜ length (now s) ≡ 6 ⌝ }
+    requires { ⌜ length (now s) ≡ 18 ⌝ }
     ensures { λ r. ⌜ r ≡ tapIn (now (s .entry)) ⌝ }
 {
     let on = base::at(s, 0);
     let iso = base::at(s, 1);
     let counter = four(s, 2);
+    let padding = padding_in(s, 6);
     Tapping {
         on: on == 1,
         iso: iso == 1,
         counter,
+        padding,
     }
 }
 
 // The state in bytes of an image's length.
 pub fn tag_in(s: &[u8]) -> Tag
-    requires { ⌜ length (now s) ≡ 672 ⌝ }
+    requires { ⌜ length (now s) ≡ 684 ⌝ }
     ensures { λ r. ⌜ r ≡ tagIn (now (s .entry)) ⌝ }
 {
     let mut uid = [0u8; 7];
@@ -195,7 +206,7 @@ pub fn tag_in(s: &[u8]) -> Tag
     let live = live_in(&s[593..633]);
     let pending = pending_in(&s[633..664]);
     let place = place_in(&s[664..666]);
-    let tap = tap_in(&s[666..672]);
+    let tap = tap_in(&s[666..684]);
     Tag {
         uid,
         files,

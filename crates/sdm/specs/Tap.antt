@@ -24,12 +24,14 @@ mirroredOf t = mirrored (t .uid) (t .counter) (t .names) (t .counts)
 unfoldable pub piccTag : Bool → Bool → ℕ
 piccTag names counts = pick names (128 + 7) 0 + pick counts 64 0
 
--- PICCData: the tag, UID and counter, and padding from the front of the random bytes
+-- PICCData: the tag, UID and counter, and padding: 5, 8 or 12 from the front of the twelve bytes that the tap keeps (02, request 3). With
+-- neither UID nor counter, which no sound settings have, 15 are wanted, and three zeros stand behind the twelve
 unfoldable pub piccText : Tap → List ℕ → List ℕ
-piccText t random = piccTag (t .names) (t .counts) ∷ mirroredOf t ++ take (15 - length (mirroredOf t)) random
+piccText t padding =
+    piccTag (t .names) (t .counts) ∷ mirroredOf t ++ take (15 - length (mirroredOf t)) (padding ++ replicate 3 0)
 
 unfoldable pub piccData : List ℕ → Tap → List ℕ → List ℕ
-piccData key t random = cipher (keyExpansion key) (piccText t random)
+piccData key t padding = cipher (keyExpansion key) (piccText t padding)
 
 -- UID and counter, at the front of ten bytes that are zeros behind them
 pub record Mirrors (p b : List ℕ) (n : ℕ) : Type 0 where

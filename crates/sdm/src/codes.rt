@@ -69,28 +69,37 @@ fn mirror_of(uid: [u8; 7], counter: u32, names: bool, counts: bool) -> Mirror
     }
 }
 
-// The tag of PICCData, UID and counter, and padding from the front of the random bytes.
-fn picc_text(tag: u8, b: [u8; 10], n: usize, random: [u8; 20]) -> [u8; 16]
+// The padding, with three zeros behind it.
+fn with_zeros(padding: [u8; 12]) -> [u8; 15]
+    ensures { λ r. ⌜ r ≡ padding ++ replicate 3 0 ⌝ }
+{
+    let mut p = [0u8; 15];
+    base::put(&padding, &mut p, 0);
+    p
+}
+
+// The tag of PICCData, UID and counter, and padding from the front of what there is.
+fn picc_text(tag: u8, b: [u8; 10], n: usize, padding: [u8; 15]) -> [u8; 16]
     requires { ⌜ n ≤ 10 ⌝ }
-    ensures { λ r. ⌜ r ≡ tag ∷ take n b ++ take (15 - n) random ⌝ }
+    ensures { λ r. ⌜ r ≡ tag ∷ take n b ++ take (15 - n) padding ⌝ }
 {
     let mut t = [0u8; 16];
     let more = 15 - n;
     base::put(&[tag], &mut t, 0);
     base::put(&b[..n], &mut t, 1);
-    base::put(&random[..more], &mut t, 1 + n);
+    base::put(&padding[..more], &mut t, 1 + n);
     t
 }
 
 // PICCData.
-pub fn picc_data(key: [u8; 16], t: Tap, random: [u8; 20]) -> [u8; 16]
-    ensures { λ r. ⌜ r ≡ piccData key t random ⌝ }
+pub fn picc_data(key: [u8; 16], t: Tap, padding: [u8; 12]) -> [u8; 16]
+    ensures { λ r. ⌜ r ≡ piccData key t padding ⌝ }
 {
     let uid = t.uid;
     let m = mirror_of(uid, t.counter, t.names, t.counts);
     let b = m.bytes;
     let tag = picc_tag(t.names, t.counts);
-    let text = picc_text(tag, b, m.count, random);
+    let text = picc_text(tag, b, m.count, with_zeros(padding));
     let w = key_expansion::expand(key);
     aes::encrypt(&w, text)
 }

@@ -16,7 +16,7 @@ use Rattle.state.specs.declared.Tag.{Tag}
 use Rattle.state.specs.State.{readingIn, endedOf, talking}
 use Rattle.replies.specs.Answer.{Answer, given, refusal, accepted}
 use Rattle.file_parts.specs.Filing.{storedIso}
-use Rattle.taps.specs.Taps.{shown, tapStatus, shownPart, tapRead}
+use Rattle.taps.specs.Taps.{readStatus, tapStatus, tapPart, tapRead}
 use Rattle.auth.specs.Parts.{begun}
 use Rattle.part_two.specs.PartTwo.{enteredFirst, enteredNext, entered}
 use Rattle.selects.specs.Selects.{moved, selectedFile}
@@ -69,7 +69,7 @@ accepted-none t m = rw (short-none m) refl
 -- ---- what holds of each answer that accepts, of each refusal and of part one holds of every answer
 by-status : (t : Tag) (c random : List ℕ) (P : Answer → Type 0) → ((a : Answer) → accepting (a .status) ≡ true → P a)
     → ((s : ℕ) → P (refusal t s)) → ((p : Pending) → P (begun t p)) → Kinds t c random P
-unfolding entered enteredFirst enteredNext accepted tapRead shownPart storedIso moved selectedFile
+unfolding entered enteredFirst enteredNext accepted tapRead tapPart storedIso moved selectedFile
 by-status t c random P on-accepting on-refusal on-begun =
     record {
       refuses = on-refusal;
@@ -83,8 +83,8 @@ by-status t c random P on-accepting on-refusal on-begun =
       restrings = λ n p m s g. on-accepting (accepted _ m []) (accepted-none _ m);
       taps =
           λ n iso at count s l p f.
-          let shows = shown t (readingIn (t .files) n) iso random in
-          way P (eqb (shows .status) 0) (λ z. fair _ (pick iso 0x9000 0x9100) _ (yes-tap iso)) (λ z. on-refusal (tapStatus iso (shows .status)));
+          let status = readStatus (t .tap) (readingIn (t .files) n) iso in
+          way P (eqb status 0) (λ z. fair _ (pick iso 0x9000 0x9100) _ (yes-tap iso)) (λ z. on-refusal (tapStatus iso status));
       reads-iso = λ n at count. fair _ 0x9000 _ yes-9000;
       moves = λ application. fair _ 0x9000 _ yes-9000;
       selects = λ n h. way P (t .place .application) (λ e. fair _ 0x9000 _ yes-9000) (λ e. on-refusal 0x6A82);

@@ -1,11 +1,14 @@
 -- The clauses of soundness over plain truth values.
 use mathlib.Core.Path.{_≡_, refl, sym, _∙_, ap}
 use mathlib.Core.Bool.{Bool, true, false, not}
+use mathlib.Core.List.{List}
 use Prim.Native.Nat.{ℕ, _-_}
 use lib.Dec.{eqb, leb}
 use Rattle.base.specs.Decide.{and, or}
+use Rattle.base.specs.Bytes.{same}
 use Rattle.base.proofs.Bytes.{and-left, and-right}
-use Rattle.soundness.specs.Sound.{keysSound, aloneSound, levelSound}
+use Rattle.state.specs.State.{noPadding}
+use Rattle.soundness.specs.Sound.{keysSound, aloneSound, paddingSound, levelSound}
 use Rattle.series.proofs.Choices.{not-both, both-true}
 
 -- ---- levels, over plain truth values
@@ -107,3 +110,12 @@ pub alone-tap : (tap l p sdm : Bool) → l ≡ false → p ≡ false → sdm ≡
 unfolding aloneSound
 alone-tap true l p sdm a b c = both-true (ap not a) (both-true (ap not b) c)
 alone-tap false l p sdm a b c = refl
+
+-- ---- the kept padding
+pub padding-none : paddingSound false noPadding ≡ true
+unfolding paddingSound same
+padding-none = refl
+
+pub padding-tap : (tap : Bool) (padding : List ℕ) → tap ≡ true → paddingSound tap padding ≡ true
+unfolding paddingSound
+padding-tap tap padding e = rw e refl

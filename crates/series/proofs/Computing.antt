@@ -14,7 +14,7 @@ use Rattle.settings.specs.Answers.{verdictOf, judged, statusWord}
 use Rattle.state.specs.State.{startOf, sizeOf as fileSize, fileOf, slotOf, rulesOf, readingIn, noLive, noPending, quieted, endedOf, placed, talking, tapped, filed, sessionOf}
 use Rattle.delivery.specs.Fresh.{container, deliveredFiles, freshTag}
 use Rattle.access.specs.Access.{granted, readGrant, changeGrant, grantFor, fileMode, underKey, modeFor, reads, decided, grantStatus}
-use Rattle.soundness.specs.Sound.{rulesSound, keysSound, aloneSound, levelSound, soundTag}
+use Rattle.soundness.specs.Sound.{rulesSound, keysSound, aloneSound, paddingSound, levelSound, soundTag}
 use Rattle.replies.specs.Answer.{refusal, raised, afterwards, accepted}
 use Rattle.file_parts.specs.Filing.{stored, storedIso}
 use Rattle.details.specs.Details.{settingsReply, fileSettings}
@@ -54,7 +54,7 @@ unfolding container deliveredFiles freshTag
 a-fresh-tag = true
 
 unfoldable pub soundness : Bool
-unfolding rulesSound keysSound aloneSound levelSound soundTag a-state its-verdict
+unfolding rulesSound keysSound aloneSound paddingSound levelSound soundTag a-state its-verdict
 soundness = true
 
 -- a command: access, message, answer

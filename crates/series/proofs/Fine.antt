@@ -15,12 +15,12 @@ use Rattle.state.specs.declared.Files.{Files}
 use Rattle.state.specs.declared.Secrets.{Secrets}
 use Rattle.state.specs.declared.Tag.{Tag}
 use Rattle.state.specs.State.{rulesOf, readingIn, noLive, noPending, quieted, endedOf, filed, keyed, talking}
-use Rattle.soundness.specs.Sound.{rulesSound, keysSound, aloneSound, levelSound, soundTag}
+use Rattle.soundness.specs.Sound.{rulesSound, keysSound, aloneSound, paddingSound, levelSound, soundTag}
 use Rattle.replies.specs.Answer.{Answer, refusal, accepted, afterwards, raised}
 use Rattle.file_parts.specs.Filing.{withBytes}
 use Rattle.series.specs.Series.{Typed}
 use Rattle.series.proofs.Choices.{way, both-true}
-use Rattle.series.proofs.Clauses.{level-still, level-quiet, keys-none, alone-quiet}
+use Rattle.series.proofs.Clauses.{level-still, level-quiet, keys-none, alone-quiet, padding-none}
 
 -- what soundness says of files, tap counter and UID, with the lengths of the settings' places
 pub record Lasting (files : Files) (counter : ℕ) (uid : List ℕ) : Type 0 where
@@ -32,7 +32,7 @@ pub record Lasting (files : Files) (counter : ℕ) (uid : List ℕ) : Type 0 whe
   pub range : leb counter 16777215 ≡ true
   pub first : eqb (byteAt uid 0) 4 ≡ true
 
--- all of soundness but the clause of taps
+-- all of soundness but the clauses of taps
 pub record Calm (t : Tag) : Type 0 where
   pub lasting : Lasting (t .files) (t .tap .counter) (t .uid)
   pub keys : keysSound (t .live .on) (t .live .key) (t .pending .on) (t .pending .key) ≡ true
@@ -41,6 +41,7 @@ pub record Calm (t : Tag) : Type 0 where
 pub record Fine (t : Tag) : Type 0 where
   pub calm : Calm t
   pub alone : aloneSound (t .tap .on) (t .live .on) (t .pending .on) (readingIn (t .files) 2 .settings .head .sdm) ≡ true
+  pub padding : paddingSound (t .tap .on) (t .tap .padding) ≡ true
 
 pub sound-fine : (t : Tag) → Typed t → soundTag t ≡ true → Fine t
 unfolding soundTag
@@ -52,6 +53,7 @@ sound-fine t s e =
     let g = and-right (eqb (byteAt (t .uid) 0) 4) _ f in
     let h = and-right (keysSound (t .live .on) (t .live .key) (t .pending .on) (t .pending .key)) _ g in
     let sdm = readingIn (t .files) 2 .settings .head .sdm in
+    let i = and-right (aloneSound (t .tap .on) (t .live .on) (t .pending .on) sdm) _ h in
     record {
       calm =
           record {
@@ -66,9 +68,10 @@ sound-fine t s e =
                   first = and-left _ _ f;
                 };
             keys = and-left _ _ g;
-            level = and-right (aloneSound (t .tap .on) (t .live .on) (t .pending .on) sdm) _ h;
+            level = and-right (paddingSound (t .tap .on) (t .tap .padding)) _ i;
           };
       alone = and-left _ _ h;
+      padding = and-left _ _ i;
     }
 
 pub fine-sound : (t : Tag) → Fine t → soundTag t ≡ true
@@ -78,7 +81,7 @@ fine-sound t h =
     let l = c .lasting in
     both-true (l .one)
     (both-true (l .two)
-    (both-true (l .three) (both-true (l .range) (both-true (l .first) (both-true (c .keys) (both-true (h .alone) (c .level)))))))
+    (both-true (l .three) (both-true (l .range) (both-true (l .first) (both-true (c .keys) (both-true (h .alone) (both-true (h .padding) (c .level))))))))
 
 -- ---- what ends, and what goes on
 pub fine-ended : (t : Tag) → Calm t → Fine (endedOf t)
@@ -92,6 +95,7 @@ fine-ended t c =
             level = level-still (t .place .application) (t .live .on) (t .pending .on) (t .tap .on) (t .place .file) (c .level);
           };
       alone = alone-quiet false false (readingIn (t .files) 2 .settings .head .sdm);
+      padding = padding-none;
     }
 
 pub fine-after : (t : Tag) → Calm t → Fine (afterwards t)
@@ -105,6 +109,7 @@ fine-after t c =
             level = level-quiet (t .place .application) (t .live .on) (t .pending .on) (t .tap .on) (t .place .file) (c .level);
           };
       alone = alone-quiet (t .live .on) (t .pending .on) (readingIn (t .files) 2 .settings .head .sdm);
+      padding = padding-none;
     }
 
 abbrev pub FineAfter : Answer → Type 0

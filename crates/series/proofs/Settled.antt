@@ -10,7 +10,7 @@ use lib.Seq.{take-at}
 use borrow.Author.Tests.{eqb-true, ltb-true, le-leb, eq-eqb}
 use Rattle.base.specs.Decide.{pick, and, or}
 use Rattle.base.specs.Bytes.{byteAt}
-use Rattle.base.proofs.Bytes.{laid-length, same-refl}
+use Rattle.base.proofs.Bytes.{laid-length, same-refl, and-left}
 use Rattle.messaging.specs.declared.Mode.{Mode}
 use Rattle.spans.specs.declared.Reading.{Reading}
 use Rattle.settings.specs.declared.Verdict.the-variants.{Good}
@@ -23,16 +23,16 @@ use Rattle.meanings.proofs.Kept.{front-kept}
 use Rattle.meanings.proofs.NormalForm.{normal-length, normal-twice, normal-good}
 use Rattle.meanings.proofs.Mirrors.{good-length}
 use Rattle.state.specs.declared.Files.{Files}
+use Rattle.state.specs.declared.Tapping.{Tapping}
 use Rattle.state.specs.declared.Tag.{Tag}
 use Rattle.state.specs.State.{slotOf, rulesOf, readingIn, filed, tapped}
 use Rattle.soundness.specs.Sound.{rulesSound}
 use Rattle.soundness.proofs.Inside.{rules-good, no-string}
-use Rattle.taps.specs.declared.Shown.{Shown}
-use Rattle.taps.specs.Taps.{goesOn, startStatus, counted, shown, tapStatus, shownPart, tapRead}
+use Rattle.taps.specs.Taps.{goesOn, readStatus, counted, started, tapOf, tapStatus, tapPart, tapRead}
 use Rattle.change_settings.specs.ChangeSettings.{withRules, recounted, restrung, byVerdict}
 use Rattle.series.proofs.Choices.{not-both, way}
 use Rattle.series.proofs.Places.{length-other, length-same, slot-other, slot-same, same-slot, slot-1, slot-2, slot-3}
-use Rattle.series.proofs.Clauses.{level-file, level-on, level-selected, alone-tap}
+use Rattle.series.proofs.Clauses.{level-file, level-on, level-selected, alone-tap, padding-tap}
 use Rattle.series.proofs.Fine.{Calm, Fine, FineAfter, fine-refused, fine-accepted}
 
 -- ---- other settings
@@ -140,32 +140,31 @@ tapped-file t c n e = by (eqb n 1) (eqb n 2) (eqb n 3) refl refl refl
     by false false false p q r =
         absurd (not-both (sym (ap (λ s. readingOf (readOf s) .settings .head .sdm) (no-string (t .files) n (c .lasting .lens) (rw (p, q, r) refl)) ∙ empty-off) ∙ e))
 
--- a tap that shows has a counter in range
-abbrev InRange : Shown → Type 0
-InRange s = eqb (s .status) 0 ≡ true → leb (s .tap .counter) 16777215 ≡ true
-
-counted-range : (going : Bool) (counter : ℕ) → leb counter 16777215 ≡ true → leb (counted going counter) 16777215 ≡ true
+-- the tap of a read has a counter in range, and runs
+counted-range : (counter : ℕ) → leb counter 16777215 ≡ true → leb (counted counter) 16777215 ≡ true
 unfolding counted
-counted-range true counter h = h
-counted-range false counter h =
+counted-range counter h =
     way (λ k. leb k 16777215 ≡ true) (ltb counter 16777215) (λ e. let l = ltb-true counter 16777215 e in le-leb (counter + 1) 16777215 (omega arith)) (λ e. h)
 
-shown-range : (t : Tag) → leb (t .tap .counter) 16777215 ≡ true → (r : Reading) (iso : Bool) (random : List ℕ) → InRange (shown t r iso random)
-unfolding shown
-shown-range t h r iso random =
-    let going = goesOn (t .tap) iso in
-    let status = startStatus going (t .tap .counter) (r .settings .head .limit) (r .settings .places .limit) in
-    way InRange (eqb status 0) (λ e z. counted-range going (t .tap .counter) h) (λ e z. absurd (not-both (sym e ∙ z)))
+tap-range : (t : Tapping) → leb (t .counter) 16777215 ≡ true → (iso : Bool) (random : List ℕ) → leb (tapOf t iso random .counter) 16777215 ≡ true
+unfolding tapOf started
+tap-range t h iso random =
+    way (λ (x : Tapping). leb (x .counter) 16777215 ≡ true) (goesOn t iso) (λ e. h) (λ e. counted-range (t .counter) h)
+
+pub tap-runs : (t : Tapping) (iso : Bool) (random : List ℕ) → tapOf t iso random .on ≡ true
+unfolding tapOf started goesOn
+tap-runs t iso random = way (λ (x : Tapping). x .on ≡ true) (goesOn t iso) (λ e. and-left (t .on) _ e) (λ e. refl)
 
 pub fine-tapped : (t : Tag) → Fine t → (n : ℕ) (iso : Bool) (random : List ℕ) (at count : ℕ)
     → readingIn (t .files) n .settings .head .sdm ≡ true → t .live .on ≡ false → t .pending .on ≡ false
     → or (t .place .application) (not (eqb (t .place .file) 0)) ≡ true → FineAfter (tapRead t (readingIn (t .files) n) iso at count random)
-unfolding tapRead shownPart tapped
+unfolding tapRead tapPart tapped
 fine-tapped t h n iso random at count sdm off free placed =
     let c = h .calm in
     let l = c .lasting in
-    let s = shown t (readingIn (t .files) n) iso random in
-    way FineAfter (eqb (s .status) 0)
+    let status = readStatus (t .tap) (readingIn (t .files) n) iso in
+    let now = tapOf (t .tap) iso random in
+    way FineAfter (eqb status 0)
     (λ e.
     record {
       calm =
@@ -177,17 +176,18 @@ fine-tapped t h n iso random at count sdm off free placed =
                   one = l .one;
                   two = l .two;
                   three = l .three;
-                  range = shown-range t (l .range) (readingIn (t .files) n) iso random e;
+                  range = tap-range (t .tap) (l .range) iso random;
                   first = l .first;
                 };
             keys = c .keys;
             level =
-                level-on (t .place .application) (t .live .on) (t .pending .on) (s .tap .on) (t .place .file)
+                level-on (t .place .application) (t .live .on) (t .pending .on) (now .on) (t .place .file)
                 (level-selected (t .place .application) (t .live .on) (t .pending .on) (t .tap .on) (t .place .file) (c .level) placed)
                 (level-file (t .place .application) (t .live .on) (t .pending .on) (t .tap .on) (t .place .file) (c .level));
           };
       alone =
-          alone-tap (s .tap .on) (t .live .on) (t .pending .on) (readingIn (t .files) 2 .settings .head .sdm) off free
+          alone-tap (now .on) (t .live .on) (t .pending .on) (readingIn (t .files) 2 .settings .head .sdm) off free
           (subst (λ k. readingIn (t .files) k .settings .head .sdm ≡ true) (tapped-file t c n sdm) sdm);
+      padding = padding-tap (now .on) (now .padding) (tap-runs (t .tap) iso random);
     })
-    (λ e. fine-refused t c (tapStatus iso (s .status)))
+    (λ e. fine-refused t c (tapStatus iso status))

@@ -24,7 +24,7 @@ use Rattle.tag.specs.declared.Outcome.the-variants.{Replied, SmallRoom, WrongRa
 use Rattle.series.specs.Series.{Asked, step, after, Typed}
 use Rattle.series.proofs.Choices.{way}
 use Rattle.series.proofs.Walk.{Kinds, every-answer}
-use Rattle.series.proofs.Clauses.{level-file, level-on, level-zero, level-pending, level-either, keys-pending, keys-begun, keys-entered, keys-none, alone-quiet}
+use Rattle.series.proofs.Clauses.{level-file, level-on, level-zero, level-pending, level-either, keys-pending, keys-begun, keys-entered, keys-none, alone-quiet, padding-none}
 use Rattle.series.proofs.Fine.{Calm, Fine, FineAfter, sound-fine, fine-sound, fine-ended, fine-after, fine-refused, fine-accepted, calm-keyed, calm-filed}
 use Rattle.series.proofs.Settled.{fine-restrung, fine-tapped}
 
@@ -43,6 +43,7 @@ fine-talking t c l p k a =
                 (level-file (t .place .application) (t .live .on) (t .pending .on) (t .tap .on) (t .place .file) (c .level));
           };
       alone = alone-quiet (l .on) (p .on) (readingIn (t .files) 2 .settings .head .sdm);
+      padding = padding-none;
     }
 
 fine-begun : (t : Tag) → Calm t → (p : Pending) → p .key ≤ 4 → or (t .place .application) (t .live .on) ≡ true → FineAfter (begun t p)
@@ -71,6 +72,7 @@ fine-moved t c application =
             level = level-zero application;
           };
       alone = alone-quiet false false (readingIn (t .files) 2 .settings .head .sdm);
+      padding = padding-none;
     }
 
 fine-selected : (t : Tag) → Calm t → (n : ℕ) → n ≤ 3 → FineAfter (selectedFile t n)
@@ -86,6 +88,7 @@ fine-selected t c n h =
             level = level-on true (t .live .on) (t .pending .on) false n refl (le-leb n 3 h);
           };
       alone = alone-quiet (t .live .on) (t .pending .on) (readingIn (t .files) 2 .settings .head .sdm);
+      padding = padding-none;
     })
     (λ e. fine-refused t c 0x6A82)
 

@@ -11,7 +11,7 @@ use Rattle.settings.specs.Answers.{judged}
 use Rattle.fields.specs.Normal.{normal}
 use Rattle.state.specs.declared.Files.{Files}
 use Rattle.state.specs.declared.Tag.{Tag}
-use Rattle.state.specs.State.{slotOf, rulesOf, readingIn}
+use Rattle.state.specs.State.{slotOf, rulesOf, readingIn, noPadding}
 use Rattle.soundness.specs.declared.Judged.{Judged}
 
 abbrev pub good : Verdict → Bool
@@ -35,6 +35,10 @@ keysSound live key pending other = and (or (not live) (leb key 4)) (and (or (not
 unfoldable pub aloneSound : Bool → Bool → Bool → Bool → Bool
 aloneSound tap live pending sdm = or (not tap) (and (not live) (and (not pending) sdm))
 
+-- 02, request 3: no tap, and the kept padding not all zero
+unfoldable pub paddingSound : Bool → List ℕ → Bool
+paddingSound tap padding = or tap (same padding noPadding)
+
 -- a selected file not 1 to 3; session, pending part, tap or selected file at PICC level
 unfoldable pub levelSound : Bool → Bool → Bool → Bool → ℕ → Bool
 levelSound application live pending tap file =
@@ -50,7 +54,8 @@ soundTag t =
     (and (eqb (byteAt (t .uid) 0) 4)
     (and (keysSound (t .live .on) (t .live .key) (t .pending .on) (t .pending .key))
     (and (aloneSound (t .tap .on) (t .live .on) (t .pending .on) (readingIn (t .files) 2 .settings .head .sdm))
-    (levelSound (t .place .application) (t .live .on) (t .pending .on) (t .tap .on) (t .place .file))))))))
+    (and (paddingSound (t .tap .on) (t .tap .padding))
+    (levelSound (t .place .application) (t .live .on) (t .pending .on) (t .tap .on) (t .place .file)))))))))
 
 -- whether it is sound, and what the settings of files 1 to 3 mean
 unfoldable pub judgedTag : Tag → Judged

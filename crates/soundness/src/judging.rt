@@ -6,7 +6,7 @@ ghost use Rattle.base.specs.Bytes.{byteAt};
 ghost use Rattle.fields.specs.Fields.{readOf};
 ghost use Rattle.spans.specs.Spans.{readingOf};
 ghost use Rattle.state.specs.State.{slotOf, stringAt};
-ghost use Rattle.soundness.specs.Sound.{good, stringSound, keysSound, aloneSound, levelSound, soundTag, judgedTag};
+ghost use Rattle.soundness.specs.Sound.{good, stringSound, keysSound, aloneSound, paddingSound, levelSound, soundTag, judgedTag};
 use crate::Judged;
 use settings::Verdict;
 use spans::Reading;
@@ -74,6 +74,16 @@ fn alone_sound(tap: bool, live: bool, pending: bool, sdm: bool) -> bool
     true
 }
 
+// No tap, and the kept padding not all zero.
+fn padding_sound(tap: bool, padding: [u8; 12]) -> bool
+    ensures { λ r. ⌜ r ≡ paddingSound tap padding ⌝ }
+{
+    if tap {
+        return true;
+    }
+    base::alike(&padding, &[0; 12])
+}
+
 // Session, pending part, tap or selected file at PICC level; a selected file not 1 to 3.
 fn level_sound(application: bool, live: bool, pending: bool, tap: bool, file: u8) -> bool
     ensures { λ r. ⌜ r ≡ levelSound application live pending tap file ⌝ }
@@ -107,6 +117,7 @@ pub fn judge_tag(t: Tag) -> Judged
     let uid = t.uid;
     let rules = t.files.rules;
     let lens = t.files.lens;
+    let padding = t.tap.padding;
     let one = judge_settings(&rules, lens, 1);
     let two = judge_settings(&rules, lens, 2);
     let three = judge_settings(&rules, lens, 3);
@@ -119,12 +130,15 @@ pub fn judge_tag(t: Tag) -> Judged
                 t.pending.on,
                 two.reading.settings.head.sdm,
             ),
-            level_sound(
-                t.place.application,
-                t.live.on,
-                t.pending.on,
-                t.tap.on,
-                t.place.file,
+            both(
+                padding_sound(t.tap.on, padding),
+                level_sound(
+                    t.place.application,
+                    t.live.on,
+                    t.pending.on,
+                    t.tap.on,
+                    t.place.file,
+                ),
             ),
         ),
     );

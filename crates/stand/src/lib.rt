@@ -1,4 +1,4 @@
-// The C border: numbers and byte slices alone, the state as an image of 672 bytes. include/mainspur.h declares it.
+// The C border: numbers and byte slices alone, the state as an image of 684 bytes. include/mainspur.h declares it.
 ghost use mathlib.Core.Path.{_≡_};
 ghost use Rattle.settings.specs.Answers.{judged, verdictWord};
 ghost use Rattle.normalising.specs.Answers.{normalised, normalRoom, normalNumber};

@@ -63,9 +63,13 @@ noLive = record { on = false; key = 0; enc = replicate 16 0; mac = replicate 16 
 unfoldable pub noPending : Pending
 noPending = record { on = false; first = false; key = 0; «rnd_b» = replicate 16 0; cap = replicate 6 0; ti = replicate 4 0; counter = 0 }
 
+-- 02, request 3: ended taps hold zeros where the padding was kept
+abbrev pub noPadding : List ℕ
+noPadding = replicate 12 0
+
 -- no tap; the tap counter stays
 unfoldable pub quieted : Tapping → Tapping
-quieted t = record { on = false; iso = false; counter = t .counter }
+quieted t = record { on = false; iso = false; counter = t .counter; padding = noPadding }
 
 -- The ways in which a tag changes: another tap; other files with their settings; other keys and versions; another selection;
 -- another session and pending part two, and no tap

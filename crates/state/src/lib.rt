@@ -57,11 +57,13 @@ pub struct Place {
     pub file: u8,
 }
 
-// Whether a tap runs, whether by ISOReadBinary, and the tap counter.
+// Whether a tap runs, whether by ISOReadBinary, the tap counter, and the padding that was drawn when the tap started. Where no tap
+// runs the padding is zeros.
 pub struct Tapping {
     pub on: bool,
     pub iso: bool,
     pub counter: u32,
+    pub padding: [u8; 12],
 }
 
 pub struct Tag {

@@ -143,6 +143,7 @@ pub fn quiet(t: Tapping) -> Tapping
         on: false,
         iso: false,
         counter: t.counter,
+        padding: [0; 12],
     }
 }
 

@@ -4,7 +4,7 @@ ghost use mathlib.Core.List.{[], _∷_};
 ghost use Prim.Native.Nat.{_+_};
 ghost use lib.ListN.{length};
 ghost use Rattle.base.specs.Bytes.{low};
-ghost use Rattle.image.specs.Image.{join, flagByte, filePieces, secretPieces, livePieces, pendingPieces, tapPieces, imageOf};
+ghost use Rattle.image.specs.Image.{imageVersion, join, flagByte, filePieces, secretPieces, livePieces, pendingPieces, tapPieces, imageOf};
 use state::Files;
 use state::Live;
 use state::Pending;
@@ -86,8 +86,9 @@ fn pending_bytes(p: Pending) -> [u8; 31]
     s
 }
 
-fn tap_bytes(t: Tapping) -> [u8; 6]
-    ensures { λ r. ⌜ r ≡ join (tapPieces t) ⌝ }
+// Its flags and its counter.
+fn tap_front(t: Tapping) -> [u8; 6]
+    ensures { λ r. ⌜ r ≡ flagByte (t .on) ∷ flagByte (t .iso) ∷ low 4 (t .counter) ⌝ }
 {
     let on = flag_byte(t.on);
     let iso = flag_byte(t.iso);
@@ -105,6 +106,17 @@ fn tap_bytes(t: Tapping) -> [u8; 6]
     ]
 }
 
+fn tap_bytes(t: Tapping) -> [u8; 18]
+    ensures { λ r. ⌜ r ≡ join (tapPieces t) ⌝ }
+{
+    let front = tap_front(t);
+    let padding = t.padding;
+    let mut s = [0u8; 18];
+    base::put(&front, &mut s, 0);
+    base::put(&padding, &mut s, 6);
+    s
+}
+
 // The version and the parts, one behind the other, over an image.
 fn joined(
     uid: &[u8],
@@ -117,11 +129,11 @@ fn joined(
     s: &mut [u8],
 )
     requires { ⌜ (length (now uid) ≡ 7) × (length (now files) ≡ 500) × (length (now secrets) ≡ 85) × (length (now live) ≡ 40)
-        × (length (now pending) ≡ 31) × (length (now place) ≡ 2) × (length (now tap) ≡ 6) × (length (now s) ≡ 672) ⌝ }
-    ensures { λ _. ⌜ now (s .exit) ≡ join ((1 ∷ []) ∷ now (uid .entry) ∷ now (files .entry) ∷ now (secrets .entry) ∷ now (live .entry)
+        × (length (now pending) ≡ 31) × (length (now place) ≡ 2) × (length (now tap) ≡ 18) × (length (now s) ≡ 684) ⌝ }
+    ensures { λ _. ⌜ now (s .exit) ≡ join ((imageVersion ∷ []) ∷ now (uid .entry) ∷ now (files .entry) ∷ now (secrets .entry) ∷ now (live .entry)
         ∷ now (pending .entry) ∷ now (place .entry) ∷ now (tap .entry) ∷ []) ⌝ }
 {
-    base::put(b"\x01", s, 0);
+    base::put(b"\x02", s, 0);
     base::put(uid, s, 1);
     base::put(files, s, 8);
     base::put(secrets, s, 508);
@@ -133,7 +145,7 @@ fn joined(
 
 // The image of a state, over bytes of its length.
 pub fn lay_image(t: Tag, s: &mut [u8])
-    requires { ⌜ length (now s) ≡ 672 ⌝ }
+    requires { ⌜ length (now s) ≡ 684 ⌝ }
     ensures { λ _. ⌜ now (s .exit) ≡ imageOf t ⌝ }
 {
     let application = flag_byte(t.place.application);

@@ -3,7 +3,7 @@ use mathlib.Core.Bool.{Bool, true, not}
 use mathlib.Core.List.{List}
 use Prim.Native.Nat.{ℕ, _+_}
 use lib.Dec.{eqb, leb, ltb}
-use lib.ListN.{take, drop, replicate}
+use lib.ListN.{take, drop}
 use Rattle.base.specs.Decide.{pick, and}
 use Rattle.base.specs.Status.{operationOk, integrityError, permissionDenied, isoNormal, isoSecurity}
 use Rattle.fields.specs.declared.Head.{Head}
@@ -14,7 +14,6 @@ use Rattle.state.specs.declared.Tag.{Tag}
 use Rattle.state.specs.declared.Tapping.{Tapping}
 use Rattle.state.specs.State.{fileOf, keyIn, tapped}
 use Rattle.replies.specs.Answer.{Answer, given, refusal}
-use Rattle.taps.specs.declared.Shown.{Shown}
 
 -- the last command was such an accepted read, by the same command
 unfoldable pub goesOn : Tapping → Bool → Bool
@@ -25,48 +24,46 @@ unfoldable pub startStatus : Bool → ℕ → Bool → ℕ → ℕ
 startStatus going counter limited limit =
     pick going 0 (pick (and limited (leb limit counter)) permissionDenied (pick (leb 16777215 counter) integrityError 0))
 
--- a start adds one; `startStatus` refuses one at 16,777,215, so no state that the tag reaches gets here with it, and it stays
-unfoldable pub counted : Bool → ℕ → ℕ
-counted going counter = pick going counter (pick (ltb counter 16777215) (counter + 1) counter)
+-- of a read, by the state and file 2's settings
+unfoldable pub readStatus : Tapping → Reading → Bool → ℕ
+readStatus t r iso = startStatus (goesOn t iso) (t .counter) (r .settings .head .limit) (r .settings .places .limit)
 
--- UID and counter as far as mirrored, SDMMetaReadKey, SDMFileReadKey, this call's random bytes
-unfoldable pub mirrorFor : Tag → Head → ℕ → List ℕ → Mirror
-mirrorFor t h counter random =
+-- a start adds one; `startStatus` refuses one at 16,777,215, so no state that the tag reaches gets here with it, and it stays
+unfoldable pub counted : ℕ → ℕ
+counted counter = pick (ltb counter 16777215) (counter + 1) counter
+
+-- a tap starts; its padding is drawn then, the first twelve random bytes of this call, and kept (02, request 3)
+unfoldable pub started : Tapping → Bool → List ℕ → Tapping
+started t iso random = record { on = true; iso = iso; counter = counted (t .counter); padding = take 12 random }
+
+-- the tap that a read belongs to: the one that runs goes on as it is, else one starts
+unfoldable pub tapOf : Tapping → Bool → List ℕ → Tapping
+tapOf t iso random = pick (goesOn t iso) t (started t iso random)
+
+-- UID and counter as far as mirrored, SDMMetaReadKey, SDMFileReadKey, the padding that the tap keeps
+unfoldable pub mirrorFor : Tag → Head → Mirror
+mirrorFor t h =
     record {
-      tap = record { uid = t .uid; counter = counter; names = h .uid; counts = h .counter };
+      tap = record { uid = t .uid; counter = t .tap .counter; names = h .uid; counts = h .counter };
       «meta_key» = keyIn (t .secrets .keys) (h .«sdm_meta_read»);
       «file_key» = keyIn (t .secrets .keys) (h .«sdm_file_read»);
-      random = random;
+      padding = t .tap .padding;
     }
 
--- a tap that is refused: nothing is shown, and zeros fill the code's buffer
-abbrev pub notShown : ℕ → Tapping → Shown
-notShown s t = record { status = s; tap = t; bytes = replicate 256 0 }
-
--- a tap that starts or goes on: file 2 with its mirrors
-unfoldable pub shown : Tag → Reading → Bool → List ℕ → Shown
-shown t r iso random =
-    let going = goesOn (t .tap) iso in
-    let status = startStatus going (t .tap .counter) (r .settings .head .limit) (r .settings .places .limit) in
-    let counter = counted going (t .tap .counter) in
-    pick (eqb status 0)
-    (record {
-      status = 0;
-      tap = record { on = true; iso = iso; counter = counter };
-      bytes = dynamicData (fileOf (t .files) 2) r (mirrorFor t (r .settings .head) counter random);
-    })
-    (notShown status (t .tap))
+-- what a tap shows: file 2 with its mirrors, all from the state while the tap runs
+unfoldable pub tapText : Tag → Reading → List ℕ
+tapText t r = dynamicData (fileOf (t .files) 2) r (mirrorFor t (r .settings .head))
 
 -- its status; ISO: a tap that can't start is 6982
 unfoldable pub tapStatus : Bool → ℕ → ℕ
 tapStatus iso s = pick iso isoSecurity s
 
--- a tap gives the part of the mirrored file that is asked for, or is refused
-unfoldable pub shownPart : Tag → Shown → Bool → ℕ → ℕ → Answer
-shownPart t s iso at count =
-    pick (eqb (s .status) 0)
-    (given (tapped t (s .tap)) (pick iso isoNormal operationOk) (take count (drop at (s .bytes))))
-    (refusal t (tapStatus iso (s .status)))
+-- the part of it that is asked for
+unfoldable pub tapPart : Tag → Reading → Bool → ℕ → ℕ → Answer
+tapPart t r iso at count = given t (pick iso isoNormal operationOk) (take count (drop at (tapText t r)))
 
+-- a read that starts a tap or goes on with it, or is refused
 unfoldable pub tapRead : Tag → Reading → Bool → ℕ → ℕ → List ℕ → Answer
-tapRead t r iso at count random = shownPart t (shown t r iso random) iso at count
+tapRead t r iso at count random =
+    let status = readStatus (t .tap) r iso in
+    pick (eqb status 0) (tapPart (tapped t (tapOf (t .tap) iso random)) r iso at count) (refusal t (tapStatus iso status))

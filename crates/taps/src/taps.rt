@@ -5,8 +5,7 @@ ghost use Rattle.base.specs.Status.{operationOk, isoNormal};
 ghost use Rattle.state.specs.State.{fileOf};
 ghost use Rattle.spans.specs.Spans.{SpansFit};
 ghost use Rattle.replies.specs.Answer.{Gives};
-ghost use Rattle.taps.specs.Taps.{goesOn, startStatus, counted, mirrorFor, shown, tapStatus, shownPart, tapRead};
-use crate::Shown;
+ghost use Rattle.taps.specs.Taps.{goesOn, startStatus, readStatus, counted, started, tapOf, mirrorFor, tapText, tapStatus, tapPart, tapRead};
 use fields::Head;
 use mirror::Mirror;
 use replies::Done;
@@ -47,35 +46,70 @@ fn start_status(going: bool, counter: u32, limited: bool, limit: u32) -> u16
     0
 }
 
-// The counter of a tap: one more where it starts.
-fn count(going: bool, counter: u32) -> u32
-    ensures { λ r. ⌜ r ≡ counted going counter ⌝ }
+// The same of a read, by the state and file 2's settings.
+fn read_status(t: Tapping, r: Reading, iso: bool) -> u16
+    ensures { λ s. ⌜ s ≡ readStatus t r iso ⌝ }
 {
-    if going {
-        return counter;
-    }
+    let head = r.settings.head;
+    start_status(
+        goes_on(t, iso),
+        t.counter,
+        head.limit,
+        r.settings.places.limit,
+    )
+}
+
+// The counter of a tap that starts: one more.
+fn count(counter: u32) -> u32
+    ensures { λ r. ⌜ r ≡ counted counter ⌝ }
+{
     if counter < 16777215 {
         return counter + 1;
     }
     counter
 }
 
-// What is mirrored, and with which keys.
-fn mirror_for(tag: Tag, h: Head, counter: u32, random: [u8; 20]) -> Mirror
-    ensures { λ r. ⌜ r ≡ mirrorFor tag h counter random ⌝ }
+// A tap that starts keeps the first twelve random bytes.
+fn begin(t: Tapping, iso: bool, random: [u8; 20]) -> Tapping
+    ensures { λ r. ⌜ r ≡ started t iso random ⌝ }
+{
+    let mut padding = [0u8; 12];
+    base::put(&random[..12], &mut padding, 0);
+    Tapping {
+        on: true,
+        iso,
+        counter: count(t.counter),
+        padding,
+    }
+}
+
+// The tap that a read belongs to: the one that runs, or one that starts.
+fn tap_of(t: Tapping, iso: bool, random: [u8; 20]) -> Tapping
+    ensures { λ r. ⌜ r ≡ tapOf t iso random ⌝ }
+{
+    if goes_on(t, iso) {
+        return t;
+    }
+    begin(t, iso, random)
+}
+
+// What is mirrored, with which keys and which padding.
+fn mirror_for(tag: Tag, h: Head) -> Mirror
+    ensures { λ r. ⌜ r ≡ mirrorFor tag h ⌝ }
 {
     let uid = tag.uid;
     let keys = tag.secrets.keys;
+    let padding = tag.tap.padding;
     Mirror {
         tap: Tap {
             uid,
-            counter,
+            counter: tag.tap.counter,
             names: h.uid,
             counts: h.counter,
         },
         meta_key: state::key_of(keys, h.sdm_meta_read),
         file_key: state::key_of(keys, h.sdm_file_read),
-        random,
+        padding,
     }
 }
 
@@ -89,33 +123,12 @@ fn second(f: Files) -> [u8; 256]
     r
 }
 
-// What a read of file 2 without a session shows; refused, the tap state stays, and nothing is shown.
-fn show(tag: Tag, r: Reading, iso: bool, random: [u8; 20]) -> Shown
+// File 2 as a tap shows it, while it runs.
+fn tap_text(tag: Tag, r: Reading) -> [u8; 256]
     requires { ⌜ SpansFit r ⌝ }
-    ensures { λ s. ⌜ s ≡ shown tag r iso random ⌝ }
+    ensures { λ s. ⌜ s ≡ tapText tag r ⌝ }
 {
-    let now = tag.tap;
-    let going = goes_on(now, iso);
-    let head = r.settings.head;
-    let status = start_status(going, now.counter, head.limit, r.settings.places.limit);
-    if status != 0 {
-        return Shown {
-            status,
-            tap: now,
-            bytes: [0; 256],
-        };
-    }
-    let counter = count(going, now.counter);
-    let bytes = mirror::lay(second(tag.files), r, mirror_for(tag, head, counter, random));
-    Shown {
-        status: 0,
-        tap: Tapping {
-            on: true,
-            iso,
-            counter,
-        },
-        bytes,
-    }
+    mirror::lay(second(tag.files), r, mirror_for(tag, r.settings.head))
 }
 
 // A tap's status, as an ISO one where it is.
@@ -132,20 +145,15 @@ fn accepting(iso: bool) -> u16
     if iso { 0x9000 } else { 0x9100 }
 }
 
-// What a tap gives: the part of the mirrored file that is asked for, or the refusal.
-fn give_shown(tag: Tag, s: Shown, iso: bool, at: usize, count: usize) -> Done
-    ensures { λ r. ⌜ Gives (shownPart tag s iso at count) r ⌝ }
+// The part of the mirrored file that is asked for, while a tap runs.
+fn give_part(tag: Tag, r: Reading, iso: bool, at: usize, count: usize) -> Done
+    requires { ⌜ SpansFit r ⌝ }
+    ensures { λ d. ⌜ Gives (tapPart tag r iso at count) d ⌝ }
 {
-    if s.status == 0 {
-        let mut t = tag;
-        let now = s.tap;
-        let bytes = s.bytes;
-        t.tap = now;
-        let p = file_parts::cut(&bytes, at, count);
-        let shown = p.bytes;
-        return replies::give(t, accepting(iso), shown, p.length);
-    }
-    replies::refuse(tag, tap_status(iso, s.status))
+    let text = tap_text(tag, r);
+    let p = file_parts::cut(&text, at, count);
+    let bytes = p.bytes;
+    replies::give(tag, accepting(iso), bytes, p.length)
 }
 
 // A read of file 2 that is a tap, by ISOReadBinary or by ReadData; r are its settings.
@@ -153,5 +161,12 @@ pub fn read_tap(tag: Tag, r: Reading, iso: bool, at: usize, count: usize, random
     requires { ⌜ SpansFit r ⌝ }
     ensures { λ d. ⌜ Gives (tapRead tag r iso at count random) d ⌝ }
 {
-    give_shown(tag, show(tag, r, iso, random), iso, at, count)
+    let status = read_status(tag.tap, r, iso);
+    if status == 0 {
+        let mut t = tag;
+        let now = tap_of(t.tap, iso, random);
+        t.tap = now;
+        return give_part(t, r, iso, at, count);
+    }
+    replies::refuse(tag, tap_status(iso, status))
 }

@@ -2,7 +2,7 @@
 
 use std::ops::Range;
 
-use super::{Call, Phase, Random, ReadKind, Tag, LAST_COUNTER};
+use super::{Call, Padding, Phase, Random, ReadKind, Tag, Tap, LAST_COUNTER};
 use crate::aes::Aes;
 use crate::bytes::{hex_bytes, three};
 use crate::crypto::{cbc_encrypt, Cmac};
@@ -30,18 +30,24 @@ impl Tag {
         if self.session().is_some() || self.settings(file).sdm.is_none() {
             return Ok(self.file(file).bytes[range].to_vec());
         }
-        if call.tap != Some(kind) {
-            self.start_tap(file)?;
-        }
-        self.set_phase(Phase::Tap(kind));
-        let mut text = self.mirrored(file, call.random);
+        let tap = match call.tap.filter(|tap| tap.kind == kind) {
+            Some(tap) => tap,
+            None => self.start_tap(file, kind, call.random)?,
+        };
+        self.set_phase(Phase::Tap(tap));
+        let mut text = self.mirrored(file, &tap.padding);
         text.truncate(range.end);
         text.drain(..range.start);
         Ok(text)
     }
 
-    /// The limit, then the overflow, else one more.
-    fn start_tap(&mut self, file: FileNo) -> Result<(), TapRefusal> {
+    /// The limit, then the overflow, else one more; the padding is drawn.
+    fn start_tap(
+        &mut self,
+        file: FileNo,
+        kind: ReadKind,
+        random: &Random,
+    ) -> Result<Tap, TapRefusal> {
         let limit = self.settings(file).sdm.as_ref().and_then(|sdm| sdm.limit);
         if limit.is_some_and(|limit| self.counter >= limit) {
             return Err(TapRefusal::Limit);
@@ -50,14 +56,15 @@ impl Tag {
             return Err(TapRefusal::Overflow);
         }
         self.counter += 1;
-        Ok(())
+        let [padding @ .., _, _, _, _, _, _, _, _] = *random;
+        Ok(Tap { kind, padding })
     }
 
     /// The file with its mirrors laid over it.
-    fn mirrored(&self, file: FileNo, random: &Random) -> Vec<u8> {
+    fn mirrored(&self, file: FileNo, padding: &Padding) -> Vec<u8> {
         let mut text = self.file(file).bytes.clone();
         if let Some(sdm) = &self.settings(file).sdm {
-            self.mirror_meta(&sdm.meta, random, &mut text);
+            self.mirror_meta(&sdm.meta, padding, &mut text);
             if let Some(read) = &sdm.file_read {
                 self.mirror_file_read(sdm, read, &mut text);
             }
@@ -66,7 +73,7 @@ impl Tag {
     }
 
     /// UID and counter in plain, high byte first, or the block of PICCData.
-    fn mirror_meta(&self, meta: &Meta, random: &Random, text: &mut [u8]) {
+    fn mirror_meta(&self, meta: &Meta, padding: &Padding, text: &mut [u8]) {
         match meta {
             Meta::Off => (),
             Meta::Plain { uid, counter } => {
@@ -76,14 +83,14 @@ impl Tag {
                 counter.iter().for_each(|at| lay(text, *at, &number));
             }
             Meta::Encrypted { key, offset, .. } => {
-                let block = self.picc_data(meta, random);
+                let block = self.picc_data(meta, padding);
                 lay(text, *offset, &self.kx(*key).encrypt(&block));
             }
         }
     }
 
-    /// PICCDataTag, what is mirrored, and padding from the front of the random bytes.
-    fn picc_data(&self, meta: &Meta, random: &Random) -> [u8; 16] {
+    /// PICCDataTag, what is mirrored, and the front of the padding.
+    fn picc_data(&self, meta: &Meta, padding: &Padding) -> [u8; 16] {
         let mut tag = 0;
         if meta.mirrors_uid() {
             tag |= 0x80 | 7;
@@ -91,7 +98,7 @@ impl Tag {
         if meta.mirrors_counter() {
             tag |= 0x40;
         }
-        fill(&[&[tag], &self.mirrored_names(meta), random])
+        fill(&[&[tag], &self.mirrored_names(meta), padding])
     }
 
     /// UID and counter, low byte first, where each is mirrored.

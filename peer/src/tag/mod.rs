@@ -15,6 +15,7 @@ use crate::status::{Answer, Reply};
 
 pub type Uid = [u8; 7];
 pub type Random = [u8; 20];
+type Padding = [u8; 12];
 
 /// The longest reply: 256 bytes of data and two of status.
 pub const ROOM: usize = 258;
@@ -50,11 +51,19 @@ pub enum ReadKind {
     IsoReadBinary,
 }
 
+/// A tap: the read that it goes on with, and the padding of PICCData, drawn when it started and
+/// used until it ends (02, request 3).
+#[derive(Clone, Copy)]
+struct Tap {
+    kind: ReadKind,
+    padding: Padding,
+}
+
 /// What runs at application level: at most one of a tap, a pending part two, a session.
 #[derive(Clone)]
 enum Phase {
     Idle,
-    Tap(ReadKind),
+    Tap(Tap),
     Pending(Pending),
     Session(Box<Session>),
 }
@@ -79,8 +88,8 @@ pub struct Tag {
 /// What a call brings besides its command.
 struct Call<'a> {
     random: &'a Random,
-    /// The read that the last command was, if a tap runs.
-    tap: Option<ReadKind>,
+    /// The tap of the last command, if that was such a read.
+    tap: Option<Tap>,
 }
 
 impl Tag {
@@ -149,9 +158,11 @@ impl Tag {
         }
     }
 
-    /// Ends a running tap and tells which read it was.
-    fn end_tap(&mut self) -> Option<ReadKind> {
-        let tap = self.tap()?;
+    /// Ends a running tap and hands it out.
+    fn end_tap(&mut self) -> Option<Tap> {
+        let Phase::Tap(tap) = *self.phase()? else {
+            return None;
+        };
         self.set_phase(Phase::Idle);
         Some(tap)
     }
@@ -204,7 +215,7 @@ impl Tag {
 
     pub fn tap(&self) -> Option<ReadKind> {
         match self.phase()? {
-            Phase::Tap(kind) => Some(*kind),
+            Phase::Tap(tap) => Some(tap.kind),
             _ => None,
         }
     }

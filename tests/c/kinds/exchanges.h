@@ -3,7 +3,7 @@
  * 'changeable' (file 2's ReadWrite and Change are E); 'session ENC MAC TI' (under key 0, CmdCtr 2; a tap ends); 'taps COUNTER' (one byte;
  * no tap runs). A line that can't be read leaves the tag. */
 
-enum { FILE_2_RULES = 424 + 27, LIVE = 593, LIVE_KEY = 594, LIVE_ENC = 595, LIVE_MAC = 611, LIVE_TI = 627, CMD_CTR = 631, TAP = 666, TAPS = 668 };
+enum { FILE_2_RULES = 424 + 27, LIVE = 593, LIVE_KEY = 594, LIVE_ENC = 595, LIVE_MAC = 611, LIVE_TI = 627, CMD_CTR = 631, TAP = 666, TAPS = 668, PADDING = 672 };
 
 static byte tag[IMAGE];
 static int tag_there;
@@ -39,13 +39,14 @@ static Outcome set_session(const Word *w, int words) {
     tag[CMD_CTR] = 2;
     tag[CMD_CTR + 1] = 0;
     fill(tag + TAP, 0, 2);
+    fill(tag + PADDING, 0, 12);
     return NO_CASE;
 }
 
 static Outcome set_taps(const Word *w, int words) {
     byte counter[1];
     if (words != 2 || decode(w[1], counter, 1) != 1) return faulty("not 'taps COUNTER', of one byte");
-    fill(tag + TAP, 0, 6);
+    fill(tag + TAP, 0, 18);
     tag[TAPS] = counter[0];
     return NO_CASE;
 }

@@ -16,16 +16,18 @@ slice-aggregate-alike c = search needs
 alike-requires : tie.Need-alike-requires
 alike-requires c κs = search needs
 
+is-earlier-requires : tie.Need-is-earlier-requires
+is-earlier-requires c κs = search needs
+
 judged-requires : tie.Need-judged-requires
 judged-requires c κs = search needs
 
 returns : tie.Need-returns
 returns c =
-    let c7 = c .before .before .before .before .before .before .before in
-    let c9 = c7 .before .before in
-    let a = c9 .args in
-    keeps (a .s .now) (a .uid .now) (c7 .from-image .result) _ _ _ (c7 .from-image .ensures .0)
-    (c .before .before .before .before .sound .ensures) (c .before .alike .ensures) (c .judged .ensures)
+    let c8 = c .before .before .before .before .before .before .before .before in
+    let a = c8 .before .before .args in
+    keeps (a .s .now) (a .uid .now) (c8 .from-image .result) _ _ _ _ (c8 .from-image .ensures .0) (c .before .is-earlier .ensures)
+    (c .before .before .before .before .before .sound .ensures) (c .before .before .alike .ensures) (c .judged .ensures)
 
 pub kept-spec : {M : Type 1} → statement M
 kept-spec =
@@ -35,5 +37,6 @@ kept-spec =
     sound-requires
     slice-aggregate-alike
     alike-requires
+    is-earlier-requires
     judged-requires
     returns)

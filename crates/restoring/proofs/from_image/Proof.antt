@@ -14,7 +14,7 @@ refused-requires c κs = search needs
 
 returns : tie.Need-returns
 unfolding readIn rightLength
-returns c = let s = c .before .before .before .args .s .now in reads s _ (rw (ne-eqb (length s) 672 (c .before .if1 .taken)) (c .refused .ensures))
+returns c = let s = c .before .before .before .args .s .now in reads s _ (rw (ne-eqb (length s) 684 (c .before .if1 .taken)) (c .refused .ensures))
 
 at-requires : tie.Need-at-requires
 at-requires c κs = search needs
@@ -27,8 +27,8 @@ unfolding readIn rightLength
 returns-2 c =
     let s = c .before .before .before .before .before .args .s .now in
     reads s _ (rw (
-      eq-eqb (length s) 672 (c .before .before .before .if1 .left),
-      ne-eqb (byteAt s 0) 1 (λ e. c .before .if2 .taken (c .before .before .at .ensures ∙ e)),
+      eq-eqb (length s) 684 (c .before .before .before .if1 .left),
+      ne-eqb (byteAt s 0) 2 (λ e. c .before .if2 .taken (c .before .before .at .ensures ∙ e)),
     ) (c .refused2 .ensures))
 
 bits-right-requires : tie.Need-bits-right-requires
@@ -43,8 +43,8 @@ returns-3 c =
     let c7 = c .before .before .before .before .before .before .before in
     let s = c7 .args .s .now in
     reads s _ (rw (
-      eq-eqb (length s) 672 (c .before .before .before .before .before .if1 .left),
-      eq-eqb (byteAt s 0) 1 (sym (c .before .before .before .before .at .ensures) ∙ c .before .before .before .if2 .left),
+      eq-eqb (length s) 684 (c .before .before .before .before .before .if1 .left),
+      eq-eqb (byteAt s 0) 2 (sym (c .before .before .before .before .at .ensures) ∙ c .before .before .before .if2 .left),
       sym (c .before .before .bits-right .ensures) ∙ c .before .if3 .taken,
     ) (ap whole (c .tag-in .ensures)))
 
@@ -57,8 +57,8 @@ returns-4 c =
     let c7 = c .before .before .before .before .before .before .before in
     let s = c7 .args .s .now in
     reads s _ (rw (
-      eq-eqb (length s) 672 (c .before .before .before .before .before .if1 .left),
-      eq-eqb (byteAt s 0) 1 (sym (c .before .before .before .before .at .ensures) ∙ c .before .before .before .if2 .left),
+      eq-eqb (length s) 684 (c .before .before .before .before .before .if1 .left),
+      eq-eqb (byteAt s 0) 2 (sym (c .before .before .before .before .at .ensures) ∙ c .before .before .before .if2 .left),
       sym (c .before .before .bits-right .ensures) ∙ c .before .if3 .left,
     ) (c .refused3 .ensures))
 

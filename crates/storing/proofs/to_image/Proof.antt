@@ -9,7 +9,7 @@ use Rattle.storing.proofs.to_image.Tie as tie
 
 returns : tie.Need-returns
 unfolding storedIn imageIn rightLength
-returns c = rw (ne-eqb (length (c .before .before .args .s .now)) 672 (c .if1 .taken)) (refl, (refl, refl))
+returns c = rw (ne-eqb (length (c .before .before .args .s .now)) 684 (c .if1 .taken)) (refl, (refl, refl))
 
 lay-image-requires : tie.Need-lay-image-requires
 lay-image-requires c κs = search needs
@@ -21,7 +21,7 @@ returns-2 : tie.Need-returns-2
 unfolding storedIn imageIn rightLength
 returns-2 c =
     let c6 = c .before .before .before .before .before .before in
-    rw (eq-eqb (length (c6 .args .s .now)) 672 (c .before .before .before .before .if1 .left)) (refl, (c .before .before .lay-image .ensures, refl))
+    rw (eq-eqb (length (c6 .args .s .now)) 684 (c .before .before .before .before .if1 .left)) (refl, (c .before .before .lay-image .ensures, refl))
 
 pub to-image-spec : {M : Type 1} → statement M
 to-image-spec = tie.close (tie.spec returns lay-image-requires same-length returns-2)

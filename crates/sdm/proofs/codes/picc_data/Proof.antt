@@ -2,7 +2,7 @@
 use Rattle.sdm.proofs.Mirroring.{mirrors-front}
 use Rattle.sdm.specs.Tap.{piccData, piccText, mirroredOf, piccTag}
 use Rattle.aes.specs.Block.{cipher}
-use lib.ListN.{take}
+use lib.ListN.{take, replicate}
 use Prim.Native.Nat.{_-_, ℕ}
 use mathlib.Core.List.{_∷_, _++_, List}
 use mathlib.Core.Path.{ap, ap₂, _∙_}
@@ -15,6 +15,9 @@ mirror-of-requires c κs = search needs
 
 picc-tag-requires : tie.Need-picc-tag-requires
 picc-tag-requires c κs = search needs
+
+with-zeros-requires : tie.Need-with-zeros-requires
+with-zeros-requires c κs = search needs
 
 picc-text-requires : tie.Need-picc-text-requires
 picc-text-requires c κs = search needs
@@ -29,14 +32,15 @@ returns : tie.Need-returns
 unfolding piccData piccText
 returns c =
     let c4 = c .before .before .before .before in
-    let c6 = c4 .before .before in
-    let c8 = c6 .before .before in
-    let a = c8 .args in
-    let m = c6 .mirror-of .ensures in
+    let c7 = c4 .before .before .before in
+    let a = c7 .before .before .args in
+    let m = c7 .mirror-of .ensures in
+    let n = c7 .mirror-of .result .count in
     c .encrypt .ensures ∙ ap₂ cipher (c .before .before .expand .ensures)
     (c .before .before .before .picc-text .ensures
-    ∙ ap₂ (λ (t : ℕ) (p : List ℕ). t ∷ p ++ take (15 - c6 .mirror-of .result .count) (a .random)) (c4 .picc-tag .ensures) (mirrors-front m)
-    ∙ ap (λ n. piccTag (a .t .names) (a .t .counts) ∷ mirroredOf (a .t) ++ take (15 - n) (a .random)) (m .count))
+    ∙ ap (λ p. c4 .before .picc-tag .result ∷ take n (c7 .mirror-of .result .bytes) ++ take (15 - n) p) (c4 .with-zeros .ensures)
+    ∙ ap₂ (λ (t : ℕ) (p : List ℕ). t ∷ p ++ take (15 - n) (a .padding ++ replicate 3 0)) (c4 .before .picc-tag .ensures) (mirrors-front m)
+    ∙ ap (λ i. piccTag (a .t .names) (a .t .counts) ∷ mirroredOf (a .t) ++ take (15 - i) (a .padding ++ replicate 3 0)) (m .count))
 
 pub picc-data-spec : {M : Type 1} → statement M
 picc-data-spec =
@@ -44,6 +48,7 @@ picc-data-spec =
     (tie.spec
     mirror-of-requires
     picc-tag-requires
+    with-zeros-requires
     picc-text-requires
     expand-requires
     encrypt-requires

@@ -38,13 +38,13 @@ slice-aggregate-put-4 c = search needs
 put-requires-2 : tie.Need-put-requires-2
 put-requires-2 c κs = search needs
 
-array-share-prefix-random : tie.Need-array-share-prefix-random
-array-share-prefix-random c = search needs
+array-share-prefix-padding : tie.Need-array-share-prefix-padding
+array-share-prefix-padding c = search needs
 
 slice-aggregate-put-5 : tie.Need-slice-aggregate-put-5
 slice-aggregate-put-5 c =
     let c9 = c .before .before .before .before .before .before .before .before .before in
-    let l : length (c9 .args .t4) ≡ 20 = search needs in
+    let l : length (c9 .args .t4) ≡ 15 = search needs in
     sym (length-take-le (15 - c9 .args .n) (c9 .args .t4) (omega arith))
 
 slice-aggregate-put-6 : tie.Need-slice-aggregate-put-6
@@ -61,7 +61,7 @@ returns c =
     let c12 = c .before .before .before .before .before .before .before .before .before .before .before .before in
     let a = c12 .args in
     let l : length (a .t2) ≡ 10 = search needs in
-    let m : length (a .t4) ≡ 20 = search needs in
+    let m : length (a .t4) ≡ 15 = search needs in
     let c5 = c .before .before .before .before .before in
     let c9 = c5 .before .before .before .before in
     let f : a .n ≤ 10 = c12 .pre in
@@ -82,7 +82,7 @@ picc-text-spec =
     slice-aggregate-put-3
     slice-aggregate-put-4
     put-requires-2
-    array-share-prefix-random
+    array-share-prefix-padding
     slice-aggregate-put-5
     slice-aggregate-put-6
     add-put

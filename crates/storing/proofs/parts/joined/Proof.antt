@@ -3,6 +3,7 @@ use mathlib.Core.List.{[], _∷_}
 use mathlib.Core.Path.{sym, ap, _∙_}
 use borrow.Author.Needs.{needs}
 use Rattle.base.specs.Bytes.{laid}
+use Rattle.image.specs.Image.{imageVersion}
 use Rattle.image.proofs.Pieces.{laid-all}
 use Rattle.storing.proofs.parts.joined.Statement.{statement}
 use Rattle.storing.proofs.parts.joined.Tie as tie
@@ -57,8 +58,8 @@ returns c =
     ∙ ap (λ x. laid (a .secrets .now) 508 x) (c22 .put3 .ensures
     ∙ ap (λ x. laid (a .files .now) 8 x) (c26 .put2 .ensures
     ∙ ap (λ x. laid (a .uid .now) 1 x) (c30 .put .ensures))))))))
-    ∙ laid-all (1 ∷ 7 ∷ 500 ∷ 85 ∷ 40 ∷ 31 ∷ 2 ∷ 6 ∷ [])
-    ((1 ∷ []) ∷ a .uid .now ∷ a .files .now ∷ a .secrets .now ∷ a .live .now ∷ a .pending .now ∷ a .place .now ∷ a .tap .now ∷ [])
+    ∙ laid-all (1 ∷ 7 ∷ 500 ∷ 85 ∷ 40 ∷ 31 ∷ 2 ∷ 18 ∷ [])
+    ((imageVersion ∷ []) ∷ a .uid .now ∷ a .files .now ∷ a .secrets .now ∷ a .live .now ∷ a .pending .now ∷ a .place .now ∷ a .tap .now ∷ [])
     (a .s .now)
     (λ i. 1 ∷ h .0 i ∷ h .1 i ∷ h .2 i ∷ h .3 i ∷ h .4 i ∷ h .5 i ∷ h .6 i ∷ [])
     (sym (h .7))

@@ -2,7 +2,7 @@
 use mathlib.Core.List.{[], _∷_}
 use mathlib.Core.Path.{_∙_}
 use borrow.Author.Needs.{needs}
-use Rattle.image.specs.Image.{join, imageOf}
+use Rattle.image.specs.Image.{imageVersion, join, imageOf}
 use Rattle.storing.proofs.parts.lay_image.Statement.{statement}
 use Rattle.storing.proofs.parts.lay_image.Tie as tie
 
@@ -63,7 +63,7 @@ returns c =
     let c19 = c17 .before .before in
     let t = c19 .args .t in
     c .before .before .joined .ensures
-    ∙ (λ i. join ((1 ∷ []) ∷ t .uid ∷ c15 .file-bytes .ensures i ∷ c14 .secret-bytes .ensures i ∷ c13 .live-bytes .ensures i
+    ∙ (λ i. join ((imageVersion ∷ []) ∷ t .uid ∷ c15 .file-bytes .ensures i ∷ c14 .secret-bytes .ensures i ∷ c13 .live-bytes .ensures i
     ∷ c12 .pending-bytes .ensures i ∷ (c17 .flag-byte .ensures i ∷ t .place .file ∷ []) ∷ c11 .tap-bytes .ensures i ∷ []))
 
 pub lay-image-spec : {M : Type 1} → statement M

@@ -1,0 +1,4 @@
+pub mod Reading
+pub mod OneTap
+pub mod Samples
+pub mod OtherPadding

@@ -1,0 +1,2 @@
+pub mod OneTap
+pub mod Samples
