@@ -28,6 +28,10 @@ startStatus going counter limited limit =
 unfoldable pub readStatus : Tapping → Reading → Bool → ℕ
 readStatus t r iso = startStatus (goesOn t iso) (t .counter) (r .settings .head .limit) (r .settings .places .limit)
 
+-- what refuses a tap that can't start; ISO: 6982
+unfoldable pub tapStatus : Bool → ℕ → ℕ
+tapStatus iso s = pick iso isoSecurity s
+
 -- a start adds one; `startStatus` refuses one at 16,777,215, so no state that the tag reaches gets here with it, and it stays
 unfoldable pub counted : ℕ → ℕ
 counted counter = pick (ltb counter 16777215) (counter + 1) counter
@@ -53,10 +57,6 @@ mirrorFor t h =
 -- what a tap shows: file 2 with its mirrors, all from the state while the tap runs
 unfoldable pub tapText : Tag → Reading → List ℕ
 tapText t r = dynamicData (fileOf (t .files) 2) r (mirrorFor t (r .settings .head))
-
--- its status; ISO: a tap that can't start is 6982
-unfoldable pub tapStatus : Bool → ℕ → ℕ
-tapStatus iso s = pick iso isoSecurity s
 
 -- the part of it that is asked for
 unfoldable pub tapPart : Tag → Reading → Bool → ℕ → ℕ → Answer
