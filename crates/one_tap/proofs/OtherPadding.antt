@@ -76,17 +76,14 @@ front-bytes (suc (suc zero)) = lit< tt
 front-bytes (suc (suc (suc zero))) = lit< tt
 front-bytes (suc (suc (suc (suc i)))) = lit< tt
 
-ones-bytes : (n : ℕ) → AllBytes (replicate n 1)
+same-bytes : (n b : ℕ) → b < 256 → AllBytes (replicate n b)
 unfolding AllBytes
-ones-bytes zero i = lit< tt
-ones-bytes (suc n) zero = lit< tt
-ones-bytes (suc n) (suc i) = ones-bytes n i
+same-bytes zero b h i = lit< tt
+same-bytes (suc n) b h zero = h
+same-bytes (suc n) b h (suc i) = same-bytes n b h i
 
-zeros-block : IsBlock (plainBlock 0)
-zeros-block = record { len = refl; bytes = append-bytes (64 ∷ 1 ∷ 0 ∷ 0 ∷ []) (replicate 12 0) front-bytes (zeros-bytes 12) }
-
-ones-block : IsBlock (plainBlock 1)
-ones-block = record { len = refl; bytes = append-bytes (64 ∷ 1 ∷ 0 ∷ 0 ∷ []) (replicate 12 1) front-bytes (ones-bytes 12) }
+plain-block : (b : ℕ) → b < 256 → IsBlock (plainBlock b)
+plain-block b h = record { len = refl; bytes = append-bytes (64 ∷ 1 ∷ 0 ∷ 0 ∷ []) (replicate 12 b) front-bytes (same-bytes 12 b h) }
 
 -- ---- what the two reads show
 chars-front : (b rest : List ℕ) → IsBlock b → take 32 (charsOf b ++ rest) ≡ charsOf b
@@ -131,5 +128,5 @@ data-second = data-shown sealing second false taps-second ∙ shows-second ∙ c
 pub other-padding : OtherPadding
 other-padding e =
     let same = chars-same (ciphered 0) (ciphered 1) (cipher-is-block 0 .bytes) (cipher-is-block 1 .bytes) (sym data-first ∙ e ∙ data-second) in
-    let z : _≡_ {A = ℕ} 0 1 = ap (λ l. byteAt l 4) (cipher-same (plainBlock 0) (plainBlock 1) zeros-block ones-block same) in
+    let z : _≡_ {A = ℕ} 0 1 = ap (λ l. byteAt l 4) (cipher-same (plainBlock 0) (plainBlock 1) (plain-block 0 (lit< tt)) (plain-block 1 (lit< tt)) same) in
     absurd (omega arith)

@@ -12,10 +12,10 @@ use Rattle.taps.specs.Taps.{goesOn, startStatus, readStatus, counted, started, 
 use Rattle.series.specs.Series.{accepting, accepts}
 use Rattle.series.specs.Worked.{settingsOf}
 use Rattle.series.proofs.Computing.{a-call, soundness}
-use Rattle.demands.specs.Talks.{said}
+use Rattle.demands.specs.Talks.{said, saidAll}
 use Rattle.demands.proofs.Samples.{a-sample}
-use Rattle.one_tap.specs.OneTap.{asksRead, fromOf, countOf, OfTap, dataIn, Pieces}
-use Rattle.one_tap.specs.Samples.{withString, counting, inSession, askData, askBinary, otherwise, cramped, sixDigits, Met, NoTap, NotRunning, NotOneTap}
+use Rattle.one_tap.specs.OneTap.{asksRead, fromOf, countOf, OfTap, dataIn, Pieces, gathered}
+use Rattle.one_tap.specs.Samples.{withString, counting, inSession, askData, askBinary, otherwise, cramped, sixDigits, Met, NoTap, NotRunning, NotOneTap, NotInPieces}
 
 -- a read of a tap, and the words of these samples
 unfoldable pub a-tap : Bool
@@ -78,3 +78,7 @@ not-running = record { rests = refl; reads = (inl (record { asks = refl; accepte
 pub not-one-tap : NotOneTap
 unfolding a-tap-sample
 not-one-tap = record { first = refl; command = refl; other = refl; refused = refl }
+
+pub not-in-pieces : NotInPieces
+unfolding a-tap-sample gathered saidAll
+not-in-pieces = record { whole = refl; gap = refl; part = refl; other-tap = refl }

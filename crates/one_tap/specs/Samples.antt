@@ -3,15 +3,15 @@ use mathlib.Core.Bool.{Bool, true, false}
 use mathlib.Core.List.{List, [], _∷_, _++_}
 use mathlib.Core.Path.{_≡_}
 use Prim.Native.Nat.{ℕ}
-use lib.ListN.{replicate}
+use lib.ListN.{length, take, replicate}
 use Rattle.state.specs.declared.Tag.{Tag}
 use Rattle.state.specs.State.{filed, placed, talking, noPending}
 use Rattle.tag.specs.Call.{outcomeOf}
 use Rattle.series.specs.Series.{Asked, step, after, replies}
 use Rattle.series.specs.Worked.{settingsOf}
-use Rattle.demands.specs.Talks.{said}
+use Rattle.demands.specs.Talks.{said, saidAll}
 use Rattle.demands.specs.Samples.{sample, someUid, changeable, zeros20, calling}
-use Rattle.one_tap.specs.OneTap.{Reads, Taps, OfTap, dataIn, Pieces}
+use Rattle.one_tap.specs.OneTap.{Reads, Taps, OfTap, dataIn, Pieces, gathered}
 
 -- ---- tags
 -- `changeable` with file 2 selected and another settings string of file 2, of nine bytes
@@ -88,6 +88,14 @@ pub record NotOneTap : Type 0 where
   pub command : dataIn (said (after counting (askData 0 6 ∷ calling (settingsOf 2) ∷ [])) (askData 0 6)) ≡ sixDigits 0x32
   pub other : dataIn (said (after counting (askData 0 6 ∷ [])) (askBinary 0 6)) ≡ sixDigits 0x32
   pub refused : dataIn (said (after counting (askData 0 6 ∷ askBinary 0 255 ∷ calling (0x00 ∷ 0xB0 ∷ 0x01 ∷ 0x00 ∷ 0x01 ∷ []) ∷ [])) (askBinary 0 6)) ≡ sixDigits 0x33
+
+-- `in-pieces`, with a piece left out, with a read of less than the whole file, and with a piece of another tap: the counter's last two
+-- digits are another tap's
+pub record NotInPieces : Type 0 where
+  pub whole : length (dataIn (said counting (askData 0 0))) ≡ 256
+  pub gap : length (gathered (saidAll counting (askData 0 4 ∷ askData 5 0 ∷ []))) ≡ 255
+  pub part : length (dataIn (said counting (askData 0 6))) ≡ 6
+  pub other-tap : take 6 (gathered (saidAll counting (askData 0 4 ∷ askBinary 4 0 ∷ []))) ≡ sixDigits 0x32
 
 -- `in-pieces`, with other random bytes: the whole read starts a tap with another padding, and PICCData is another
 abbrev pub OtherPadding : Type 0

@@ -121,24 +121,16 @@ pub fn judge_tag(t: Tag) -> Judged
     let one = judge_settings(&rules, lens, 1);
     let two = judge_settings(&rules, lens, 2);
     let three = judge_settings(&rules, lens, 3);
+    let live = t.live.on;
+    let pending = t.pending.on;
+    let tap = t.tap.on;
     let talks = both(
-        keys_sound(t.live.on, t.live.key, t.pending.on, t.pending.key),
+        keys_sound(live, t.live.key, pending, t.pending.key),
         both(
-            alone_sound(
-                t.tap.on,
-                t.live.on,
-                t.pending.on,
-                two.reading.settings.head.sdm,
-            ),
+            alone_sound(tap, live, pending, two.reading.settings.head.sdm),
             both(
-                padding_sound(t.tap.on, padding),
-                level_sound(
-                    t.place.application,
-                    t.live.on,
-                    t.pending.on,
-                    t.tap.on,
-                    t.place.file,
-                ),
+                padding_sound(tap, padding),
+                level_sound(t.place.application, live, pending, tap, t.place.file),
             ),
         ),
     );
