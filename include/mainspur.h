@@ -25,6 +25,7 @@ typedef __SIZE_TYPE__ mainspur_size;
 #define MAINSPUR_IMAGE_LENGTH 684 /* bytes of an image */
 #define MAINSPUR_ROOM 258         /* bytes that a reply room must have at least */
 #define MAINSPUR_RANDOM 20        /* random bytes of a call */
+#define MAINSPUR_JOURNAL 16       /* bytes of a journal */
 
 /* Refusals. Every refusal leaves image and room as they were. */
 #define MAINSPUR_SMALL_ROOM 1001   /* refusal 1: reply room under 258 bytes */
@@ -33,6 +34,26 @@ typedef __SIZE_TYPE__ mainspur_size;
 #define MAINSPUR_WRONG_UID 1004    /* refusal 4: UID not 7 bytes, or its first byte not 04 */
 #define MAINSPUR_WRONG_IMAGE 1005  /* an image of another length than 684; this comes before refusals 1 to 4 */
 #define MAINSPUR_NO_ROOM 1006      /* a room that the normal settings string does not fit in */
+#define MAINSPUR_WRONG_JOURNAL 1007 /* a journal of another length than 16; this comes next after the image's */
+
+/* A journal: why a command was granted, or not. Byte 0 says how, byte 1 under which right; the others are 0.
+ * A key is named before E, the tap rule before E, and of several rights alike the first of this list. What refuses behind the
+ * access decision (a wrong length, MAC or value, a full CmdCtr, a tap that can't start) leaves its answer. */
+#define MAINSPUR_NOT_REACHED 0 /* how: refused before the decision, by steps 1 to 5, or by refusals 1 to 3 */
+#define MAINSPUR_BY_KEY 1      /* how: the session's key is the right's condition */
+#define MAINSPUR_BY_TAP 2      /* how: the tap rule, under SDMFileRead */
+#define MAINSPUR_BY_E 3        /* how: free, the right's condition is E */
+#define MAINSPUR_NO_RIGHT 4    /* how: the command is under none of the rights */
+#define MAINSPUR_REFUSED 5     /* how: the decision refuses */
+
+#define MAINSPUR_RIGHT_NONE 0 /* under no right */
+#define MAINSPUR_RIGHT_READ 1
+#define MAINSPUR_RIGHT_WRITE 2
+#define MAINSPUR_RIGHT_READ_WRITE 3
+#define MAINSPUR_RIGHT_CHANGE 4
+#define MAINSPUR_RIGHT_SDM_META_READ 5 /* grants nothing: no call answers it */
+#define MAINSPUR_RIGHT_SDM_FILE_READ 6
+#define MAINSPUR_RIGHT_SDM_CTR_RET 7
 
 /* 684. */
 mainspur_size mainspur_image_length(void);
@@ -45,12 +66,14 @@ mainspur_size mainspur_fresh(const unsigned char *uid, mainspur_size uid_length,
 
 /* The tag's answer to a command.
  * 2 to 258: the length of the reply, data and two status bytes. It stands at the front of the room, the rest of the room
- * is as it was, and the image holds the next state.
- * MAINSPUR_WRONG_IMAGE, MAINSPUR_SMALL_ROOM, MAINSPUR_WRONG_RANDOM, MAINSPUR_UNSOUND, in this order: image and room are as
- * they were. Bytes of the right length that are no image at all (another version, a Boolean over 1) are unsound. */
+ * is as it was, the image holds the next state, and the journal why the command was granted or not.
+ * MAINSPUR_WRONG_IMAGE, MAINSPUR_WRONG_JOURNAL: image, room and journal are as they were. Then MAINSPUR_SMALL_ROOM,
+ * MAINSPUR_WRONG_RANDOM, MAINSPUR_UNSOUND, in this order: image and room are as they were, and the journal holds zeros. Bytes of the
+ * right length that are no image at all (another version, a Boolean over 1) are unsound. */
 mainspur_size mainspur_call(unsigned char *image, mainspur_size image_length, const unsigned char *command,
                             mainspur_size command_length, const unsigned char *random, mainspur_size random_length,
-                            unsigned char *room, mainspur_size room_length);
+                            unsigned char *room, mainspur_size room_length, unsigned char *journal,
+                            mainspur_size journal_length);
 
 /* Whether a settings string is good for a file: 0x9100, or the status word 0x917E (length) or 0x919E (parameter) that
  * ChangeFileSettings would answer. A file byte over 31 is 0x919E, another that is not 1 to 3 is 0x91F0, whatever the string. */

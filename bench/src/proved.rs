@@ -2,6 +2,7 @@
 
 const IMAGE: usize = 684;
 const ROOM: usize = 258;
+const JOURNAL: usize = 16;
 
 extern "C" {
     fn mainspur_fresh(uid: *const u8, uid_length: usize, image: *mut u8, image_length: usize) -> usize;
@@ -14,6 +15,8 @@ extern "C" {
         random_length: usize,
         room: *mut u8,
         room_length: usize,
+        journal: *mut u8,
+        journal_length: usize,
     ) -> usize;
 }
 
@@ -22,6 +25,7 @@ extern "C" {
 pub struct Image {
     bytes: [u8; IMAGE],
     room: [u8; ROOM],
+    journal: [u8; JOURNAL],
 }
 
 impl Image {
@@ -29,6 +33,7 @@ impl Image {
         let mut tag = Image {
             bytes: [0; IMAGE],
             room: [0; ROOM],
+            journal: [0; JOURNAL],
         };
         // SAFETY: the slices are whole, live through the call and don't overlap.
         let made = unsafe { mainspur_fresh(uid.as_ptr(), uid.len(), tag.bytes.as_mut_ptr(), IMAGE) };
@@ -48,6 +53,8 @@ impl Image {
                 random.len(),
                 self.room.as_mut_ptr(),
                 ROOM,
+                self.journal.as_mut_ptr(),
+                JOURNAL,
             )
         }
     }

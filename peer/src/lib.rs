@@ -6,6 +6,7 @@ pub mod bench;
 pub mod bytes;
 pub mod command;
 pub mod crypto;
+pub mod grant;
 pub mod log;
 pub mod messaging;
 pub mod reader;

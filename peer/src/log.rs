@@ -4,6 +4,7 @@
 use std::fmt;
 
 use crate::bytes::{hex, unhex};
+use crate::grant::{self, Grant};
 use crate::tag::{Random, Tag, Uid};
 
 /// One exchange of a log.
@@ -38,6 +39,30 @@ pub struct Difference {
     pub number: usize,
     pub logged: Vec<u8>,
     pub ours: Vec<u8>,
+}
+
+impl fmt::Display for Difference {
+    fn fmt(&self, out: &mut fmt::Formatter) -> fmt::Result {
+        let (logged, ours) = (hex(&self.logged), hex(&self.ours));
+        write!(out, "{} {logged} {ours}", self.number)
+    }
+}
+
+/// What a log played gave: the replies that differ, and why each exchange was granted.
+pub struct Played {
+    pub differences: Vec<Difference>,
+    pub grants: Vec<Grant>,
+}
+
+impl Played {
+    /// A line for each reply that differs and for each line of the .grants text, where there is
+    /// one, that isn't ours.
+    pub fn report(&self, grants: Option<&str>) -> Vec<String> {
+        let replies = self.differences.iter().map(Difference::to_string);
+        let grants = grants.map(|text| grant::differences(text, &self.grants));
+        let grants = grants.iter().flatten().map(grant::Difference::to_string);
+        replies.chain(grants).collect()
+    }
 }
 
 /// The lines of a text, and how many of them were read.
@@ -112,22 +137,25 @@ impl Log {
         text
     }
 
-    /// Plays the commands from a fresh tag: the exchanges whose replies differ, or none
-    /// of it where the UID makes no tag.
-    pub fn play(&self) -> Option<Vec<Difference>> {
+    /// Plays the commands from a fresh tag; none where the UID makes no tag.
+    pub fn play(&self) -> Option<Played> {
         let mut tag = Tag::fresh(&self.uid)?;
-        let differences = self
-            .exchanges
-            .iter()
-            .zip(1..)
-            .filter_map(|(exchange, number)| {
-                let ours = tag.exchange(&exchange.command, &exchange.random);
-                (ours != exchange.reply).then(|| Difference {
+        let mut played = Played {
+            differences: Vec::new(),
+            grants: Vec::new(),
+        };
+        for (exchange, number) in self.exchanges.iter().zip(1..) {
+            let (ours, grant) = tag.explained(&exchange.command, &exchange.random);
+            played.grants.push(grant);
+            if ours != exchange.reply {
+                let logged = exchange.reply.clone();
+                played.differences.push(Difference {
                     number,
-                    logged: exchange.reply.clone(),
+                    logged,
                     ours,
-                })
-            });
-        Some(differences.collect())
+                });
+            }
+        }
+        Some(played)
     }
 }

@@ -1,17 +1,18 @@
 //! `peer play`, `peer talks` and `peer bench`.
 
-use std::io::{Read, Write as _};
+use std::io::{ErrorKind, Read, Write as _};
 use std::path::{Path, PathBuf};
 use std::process::ExitCode;
 use std::time::{SystemTime, UNIX_EPOCH};
 
 use peer::bench::{rate, workloads};
-use peer::bytes::hex;
-use peer::log::Log;
+use peer::grant;
+use peer::log::{Log, Played};
 use peer::tag::{Tag, ROOM};
 use peer::talk::{talk, Tally};
 
 const USAGE: &str = "peer play < LOG
+peer play LOG..
 peer talks [--seed N] [--exchanges E] [--each K] --into DIR
 peer bench";
 
@@ -29,6 +30,7 @@ fn main() -> ExitCode {
     let arguments: Vec<String> = std::env::args().skip(1).collect();
     let outcome = match arguments.split_first() {
         Some((word, [])) if word == "play" => play(),
+        Some((word, paths)) if word == "play" => play_stored(paths),
         Some((word, [])) if word == "bench" => bench(),
         Some((word, rest)) if word == "talks" => talks(rest),
         _ => Err(USAGE.to_string()),
@@ -39,25 +41,59 @@ fn main() -> ExitCode {
     })
 }
 
-/// Plays a log from a fresh tag.
+/// Success only where nothing differs.
+fn verdict(differing: usize) -> Outcome {
+    Ok(match differing {
+        0 => ExitCode::SUCCESS,
+        _ => ExitCode::FAILURE,
+    })
+}
+
+/// Plays the text of a log from a fresh tag.
+fn played(text: &[u8]) -> Result<Played, String> {
+    let log = Log::parse(text).map_err(|malformed| malformed.to_string())?;
+    log.play().ok_or("line 1: no UID of a tag".to_string())
+}
+
+/// Plays the log on standard input.
 fn play() -> Outcome {
     let mut text = Vec::new();
     std::io::stdin()
         .read_to_end(&mut text)
         .map_err(|error| format!("standard input: {error}"))?;
-    let log = Log::parse(&text).map_err(|malformed| malformed.to_string())?;
-    let differences = log.play().ok_or("line 1: no UID of a tag")?;
-    let mut lines = String::new();
-    for difference in &differences {
-        let (logged, ours) = (hex(&difference.logged), hex(&difference.ours));
-        lines += &format!("{} {logged} {ours}\n", difference.number);
+    let played = played(&text)?;
+    for line in played.report(None) {
+        say(&format!("{line}\n"))?;
     }
-    let (all, differing) = (log.exchanges.len(), differences.len());
-    say(&format!("{lines}{all} exchanges, {differing} differ\n"))?;
-    Ok(match differing {
-        0 => ExitCode::SUCCESS,
-        _ => ExitCode::FAILURE,
-    })
+    let (all, differing) = (played.grants.len(), played.differences.len());
+    say(&format!("{all} exchanges, {differing} differ\n"))?;
+    verdict(differing)
+}
+
+/// Plays stored logs, each with the grants beside it, and prints what differs.
+fn play_stored(paths: &[String]) -> Outcome {
+    let mut differing = 0;
+    for path in paths {
+        let lines = stored(Path::new(path))?;
+        differing += usize::from(!lines.is_empty());
+        for line in lines {
+            say(&format!("{path}: {line}\n"))?;
+        }
+    }
+    say(&format!("{} logs, {differing} differ\n", paths.len()))?;
+    verdict(differing)
+}
+
+/// What differs in a stored log, NAME.log: its replies, and its grants where there is NAME.grants.
+fn stored(path: &Path) -> Result<Vec<String>, String> {
+    let text = std::fs::read(path).map_err(|error| at(path, error))?;
+    let played = played(&text).map_err(|what| format!("{}: {what}", path.display()))?;
+    let beside = path.with_extension("grants");
+    let grants = match std::fs::read_to_string(&beside) {
+        Err(error) if error.kind() == ErrorKind::NotFound => None,
+        read => Some(read.map_err(|error| at(&beside, error))?),
+    };
+    Ok(played.report(grants.as_deref()))
 }
 
 /// What `peer talks` is asked for.
@@ -106,7 +142,7 @@ fn clock() -> u64 {
         .map_or(0, |since| since.as_nanos() as u64)
 }
 
-/// Writes random talks as logs and prints what happened in them.
+/// Writes random talks as logs, their grants beside them, and prints what happened in them.
 fn talks(arguments: &[String]) -> Outcome {
     let order = Order::parse(arguments)?;
     say(&format!("seed {}\n", order.seed))?;
@@ -115,14 +151,19 @@ fn talks(arguments: &[String]) -> Outcome {
     let (mut left, mut index) = (order.exchanges, 0);
     while left > 0 {
         let size = left.min(order.each);
-        let log = talk(order.seed, index, size, &mut tally).ok_or("no tag")?;
+        let (log, grants) = talk(order.seed, index, size, &mut tally).ok_or("no tag")?;
         let path = order.into.join(format!("talk-{index:05}.log"));
-        std::fs::write(&path, log.text()).map_err(|error| at(&path, error))?;
+        write(&path, log.text())?;
+        write(&path.with_extension("grants"), grant::text(&grants))?;
         left -= size;
         index += 1;
     }
     say(&format!("{index} talks\n{tally}"))?;
     Ok(ExitCode::SUCCESS)
+}
+
+fn write(path: &Path, text: String) -> Result<(), String> {
+    std::fs::write(path, text).map_err(|error| at(path, error))
 }
 
 fn at(path: &Path, error: std::io::Error) -> String {

@@ -1,84 +1,13 @@
 //! Rules of 01 and of the readings, each by what the tag answers.
 
+mod desk;
+
+use desk::{Desk, ISO_READ, RANDOM, READ_2, UID};
 use peer::bytes::{hex, unhex};
 use peer::command::Native;
-use peer::reader::{part_two, wrap};
+use peer::reader::wrap;
 use peer::settings::{FileNo, Mode};
-use peer::tag::{Random, Tag, ROOM};
-
-const UID: [u8; 7] = [0x04, 0xde, 0x5f, 0x1e, 0xac, 0xc0, 0x40];
-const RANDOM: Random = [
-    0xda, 0x5c, 0xf6, 0x09, 0x41, 6, 7, 8, 9, 10, 11, 12, 13, 14, 15, 16, 17, 18, 19, 20,
-];
-
-/// A tag and someone who talks to it.
-struct Desk {
-    tag: Tag,
-}
-
-impl Desk {
-    /// A fresh tag at PICC level.
-    fn picc() -> Desk {
-        Desk {
-            tag: Tag::fresh(&UID).expect("a tag"),
-        }
-    }
-
-    /// A fresh tag with the application selected.
-    fn application() -> Desk {
-        let mut desk = Desk::picc();
-        desk.gives("00A4040007D276000085010100", "9000");
-        desk
-    }
-
-    fn send(&mut self, command: &str) -> String {
-        self.send_with(command, &RANDOM)
-    }
-
-    fn send_with(&mut self, command: &str, random: &Random) -> String {
-        let command = unhex(command).expect("hexadecimal");
-        hex(&self.tag.exchange(&command, random))
-    }
-
-    fn gives(&mut self, command: &str, reply: &str) {
-        assert_eq!(self.send(command), reply, "{command}");
-    }
-
-    /// A session with a key.
-    fn authenticate(&mut self, key: u8) {
-        let reply = self.send(&format!("9071000002{key:02X}0000"));
-        assert!(reply.ends_with("91AF"));
-        self.finish_authentication();
-    }
-
-    fn finish_authentication(&mut self) {
-        let data = part_two(&self.tag, &[7; 16]).expect("a pending part two");
-        let reply = self.send(&hex(&wrap(Native::PartTwo, &data)));
-        assert!(reply.ends_with("9100"));
-        assert!(self.tag.session().is_some());
-    }
-
-    /// A command closed in a mode; its status.
-    fn closed(&mut self, mode: Mode, ins: Native, header: &str, data: &str) -> String {
-        let (header, data) = (unhex(header).unwrap(), unhex(data).unwrap());
-        let session = self.tag.session().expect("a session");
-        let message = session.close_command(mode, ins, &header, &data);
-        let reply = self.send(&hex(&wrap(ins, &message)));
-        reply[reply.len() - 4..].to_string()
-    }
-
-    /// Settings changed in session with key 0, left again by selecting the application.
-    fn change(&mut self, file: u8, string: &str) {
-        self.authenticate(0);
-        let header = format!("{file:02X}");
-        let status = self.closed(Mode::Full, Native::ChangeFileSettings, &header, string);
-        assert_eq!(status, "9100", "{string}");
-        self.gives("00A4000C02E110", "9000");
-    }
-}
-
-const READ_2: &str = "90AD0000070200000000000000";
-const ISO_READ: &str = "00B0000000";
+use peer::tag::{Tag, ROOM};
 
 #[test]
 fn the_list_of_01() {

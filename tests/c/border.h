@@ -12,7 +12,7 @@ long write(int file, const void *from, mainspur_size n);
 
 typedef unsigned char byte;
 
-enum { IMAGE = MAINSPUR_IMAGE_LENGTH, BIG = 300, TEXT = 1 << 20 };
+enum { IMAGE = MAINSPUR_IMAGE_LENGTH, JOURNAL = MAINSPUR_JOURNAL, BIG = 300, TEXT = 1 << 20 };
 
 /* the text that is read */
 static byte text[TEXT];
@@ -74,12 +74,16 @@ static inline int digit(byte c) {
     return -1;
 }
 
-/* Reads a file's text; whether it was read to its end. A text that fills the room may be cut. */
-static inline int read_text(int file) {
+/* Reads a file into a room of TEXT bytes; whether it was read to its end. One that fills the room may be cut. */
+static inline int read_file(int file, byte *to, mainspur_size *length) {
     long n = 0;
-    text_length = 0;
-    while (text_length < TEXT && (n = read(file, text + text_length, TEXT - text_length)) > 0) text_length += (mainspur_size)n;
-    return n == 0 && text_length < TEXT;
+    *length = 0;
+    while (*length < TEXT && (n = read(file, to + *length, TEXT - *length)) > 0) *length += (mainspur_size)n;
+    return n == 0 && *length < TEXT;
+}
+
+static inline int read_text(int file) {
+    return read_file(file, text, &text_length);
 }
 
 #endif

@@ -1,8 +1,10 @@
-/* Plays a log through the image, with mainspur.h alone: a UID, then command, reply and random bytes, a line of hexadecimal
- * each, on standard input. Before the first exchange and after the last it tries every refusal, and that image and room
- * stay; before the log it judges stored lengths and kept padding, and plays part two on images with a counter in the pending part. Prints what
+/* play [GRANTS] < LOG: plays a log through the image, with mainspur.h alone: a UID, then command, reply and random bytes, a line of
+ * hexadecimal each, on standard input. GRANTS is a file with a line for each exchange: why it was granted (02, request 5), in words.
+ * Before the first exchange and after the last it tries every refusal, and what image, room and journal hold then; before the log it
+ * judges stored lengths and kept padding, and plays part two on images with a counter in the pending part. Prints what
  * differs, and last 'N exchanges, M differ'; the status is 1 where something differs. */
 #include "border.h"
+#include "grants.h"
 
 static mainspur_size at;
 
@@ -28,17 +30,35 @@ static long next_line(byte *to, mainspur_size room) {
     return (long)n;
 }
 
-/* A call that must be refused with a number, on a copy of an image: image and room stay. */
-static void refused(const byte *image, mainspur_size image_length, mainspur_size random_length, mainspur_size room_length,
-                    mainspur_size number, const char *what) {
+/* A call with all lengths right; its journal is not looked at. */
+static mainspur_size play(byte *image, const byte *command, mainspur_size length, const byte *random, byte *room) {
+    byte journal[JOURNAL];
+    return mainspur_call(image, IMAGE, command, length, random, MAINSPUR_RANDOM, room, BIG, journal, JOURNAL);
+}
+
+/* A call with a journal that must be refused with a number, on a copy of an image: image and room stay. The journal stays where its
+ * length or the image's is wrong, and else holds zeros. */
+static void refused_with(const byte *image, mainspur_size image_length, mainspur_size random_length, mainspur_size room_length,
+                         mainspur_size journal_length, mainspur_size number, const char *what) {
     static const byte select[] = {0x00, 0xA4, 0x00, 0x0C, 0x02, 0xE1, 0x10}, random[32] = {7};
-    byte now[IMAGE], room[BIG], blank[BIG];
+    byte now[IMAGE], room[BIG], journal[32], blank[BIG];
     copy(now, image, IMAGE);
     fill(room, 0xA5, BIG);
+    fill(journal, 0xA5, sizeof journal);
     fill(blank, 0xA5, BIG);
-    expect(mainspur_call(now, image_length, select, sizeof select, random, random_length, room, room_length) == number, what);
+    expect(mainspur_call(now, image_length, select, sizeof select, random, random_length, room, room_length, journal, journal_length) == number,
+           what);
     expect(same(now, image, IMAGE), what);
     expect(same(room, blank, BIG), what);
+    if (number == MAINSPUR_WRONG_IMAGE || number == MAINSPUR_WRONG_JOURNAL)
+        expect(same(journal, blank, sizeof journal), what);
+    else
+        expect(all_zero(journal, JOURNAL) && same(journal + JOURNAL, blank, sizeof journal - JOURNAL), what);
+}
+
+static void refused(const byte *image, mainspur_size image_length, mainspur_size random_length, mainspur_size room_length,
+                    mainspur_size number, const char *what) {
+    refused_with(image, image_length, random_length, room_length, JOURNAL, number, what);
 }
 
 /* The same with one byte of the image changed, which makes it unsound. */
@@ -58,6 +78,10 @@ static void call_refusals(const byte *image) {
     refused(image, IMAGE - 1, 20, 258, MAINSPUR_WRONG_IMAGE, "an image of 683 bytes");
     refused(image, 0, 19, 257, MAINSPUR_WRONG_IMAGE, "an image of no bytes, before the others");
     refused(image, 672, 20, 258, MAINSPUR_WRONG_IMAGE, "an image of 672 bytes, as version 1 had");
+    refused_with(image, IMAGE, 20, 258, 15, MAINSPUR_WRONG_JOURNAL, "a journal of 15 bytes");
+    refused_with(image, IMAGE, 20, 258, 17, MAINSPUR_WRONG_JOURNAL, "a journal of 17 bytes");
+    refused_with(image, IMAGE, 19, 257, 0, MAINSPUR_WRONG_JOURNAL, "no journal, before refusals 1 and 2");
+    refused_with(image, IMAGE - 1, 20, 258, 15, MAINSPUR_WRONG_IMAGE, "an image of 683 bytes before a journal of 15");
     unsound(image, 0, 1, "version 1");
     unsound(image, 0, 3, "version 3");
     unsound(image, 1, 5, "a UID that starts 05");
@@ -65,6 +89,9 @@ static void call_refusals(const byte *image) {
     unsound(image, 671, 1, "a tap counter over 16,777,215");
     unsound(image, 665, 4, "file 4 selected");
     unsound(image, 505, 2, "a settings string of 2 bytes");
+    copy(bad, image, IMAGE);
+    bad[1] = 5;
+    refused_with(bad, IMAGE, 20, 258, 15, MAINSPUR_WRONG_JOURNAL, "a journal of 15 bytes before an unsound image");
     copy(bad, image, IMAGE);
     fill(bad + 593, 0, IMAGE - 593);
     bad[593] = 1; /* a session */
@@ -123,7 +150,7 @@ static void stored_lengths(void) {
     copy(image + 451, longest, 27);
     image[506] = 27;
     copy(now, image, IMAGE);
-    expect(mainspur_call(now, IMAGE, select, sizeof select, random, 20, room, BIG) == 2, "a stored length of 27");
+    expect(play(now, select, sizeof select, random, room) == 2, "a stored length of 27");
     unsound(image, 506, 28, "a stored length of 28");
     unsound(image, 506, 255, "a stored length of 255");
 }
@@ -142,14 +169,14 @@ static void kept_padding(void) {
     image[665] = 2; /* file 2 is selected */
     for (int i = 672; i < IMAGE; i++) unsound(image, i, 1, "padding where no tap runs");
     copy(now, image, IMAGE);
-    expect(mainspur_call(now, IMAGE, read, sizeof read, random, 20, room, BIG) == 258, "a read that starts a tap");
+    expect(play(now, read, sizeof read, random, room) == 258, "a read that starts a tap");
     expect(same(now + 672, random, 12), "the padding that it draws");
     image[666] = image[667] = 1; /* a tap runs, by ISOReadBinary */
     fill(image + 672, 0xA5, 12);
     copy(now, image, IMAGE);
-    expect(mainspur_call(now, IMAGE, read, sizeof read, random, 20, room, BIG) == 258, "a read of a tap that runs");
+    expect(play(now, read, sizeof read, random, room) == 258, "a read of a tap that runs");
     expect(same(now, image, IMAGE), "the image behind it");
-    expect(mainspur_call(now, IMAGE, read, 4, random, 20, room, BIG) == 2, "a read without Le");
+    expect(play(now, read, 4, random, room) == 2, "a read without Le");
     expect(all_zero(now + 666, 2) && all_zero(now + 672, 12), "the padding where the tap has ended");
 }
 
@@ -167,12 +194,12 @@ static void last_place(void) {
     image[664] = 1; /* the application */
     image[665] = 2; /* file 2 is selected */
     copy(now, image, IMAGE);
-    expect(mainspur_call(now, IMAGE, read, sizeof read, random, 20, room, BIG) == 18, "a mirror at the file's end");
+    expect(play(now, read, sizeof read, random, room) == 18, "a mirror at the file's end");
     expect(room[16] == 0x90 && room[17] == 0x00 && room[0] != 0 && room[15] != 0, "its digits");
     fill(room, 0xA5, BIG);
     image[451 + 12] = 241;
     copy(now, image, IMAGE);
-    expect(mainspur_call(now, IMAGE, read, sizeof read, random, 20, room, BIG) == MAINSPUR_UNSOUND, "a mirror that ends behind the file");
+    expect(play(now, read, sizeof read, random, room) == MAINSPUR_UNSOUND, "a mirror that ends behind the file");
     expect(same(now, image, IMAGE) && same(room, blank, BIG), "image and room behind it");
 }
 
@@ -193,17 +220,25 @@ static void part_two(byte first) {
     for (int i = 0; i < 16; i++) image[636 + i] = (byte)(0x10 + i);
     copy(image + 658, kept, 6);
     image[664] = 1; /* the application */
-    expect(mainspur_call(image, IMAGE, command, sizeof command, random, 20, room, BIG) == n, "the length of part two's reply");
+    expect(play(image, command, sizeof command, random, room) == n, "the length of part two's reply");
     expect(room[n - 2] == 0x91 && room[n - 1] == 0x00, "the status of part two");
     expect(image[593] == 1 && image[633] == 0, "a session after part two");
     expect(same(image + 627, first ? opened : kept, 6), first ? "TI and CmdCtr after 71" : "TI and CmdCtr after 77");
 }
 
-int main(void) {
-    byte uid[16], image[IMAGE], command[BIG], reply[BIG], random[BIG], room[BIG], blank[BIG];
-    unsigned long exchanges = 0, wrong = 0;
-    long n;
-    int whole = read_text(0);
+/* One exchange of the log, and its grant. */
+static int exchange_differs(byte *image, const byte *command, long c, const byte *reply, long r, const byte *random, long k) {
+    byte room[BIG], journal[JOURNAL], blank[BIG];
+    fill(room, 0xA5, BIG);
+    fill(journal, 0xA5, JOURNAL);
+    fill(blank, 0xA5, BIG);
+    mainspur_size got = mainspur_call(image, IMAGE, command, (mainspur_size)c, random, (mainspur_size)k, room, BIG, journal, JOURNAL);
+    int alike = got == (mainspur_size)r && same(room, reply, got) && same(room + got, blank + got, BIG - got);
+    int granted = next_grant(journal);
+    return !alike || !granted || !all_zero(journal + 2, JOURNAL - 2);
+}
+
+static void before_the_log(void) {
     fresh_refusals();
     settings_strings();
     stored_lengths();
@@ -211,24 +246,30 @@ int main(void) {
     last_place();
     part_two(1);
     part_two(0);
+}
+
+int main(int count, char **words) {
+    byte uid[16], image[IMAGE], command[BIG], reply[BIG], random[BIG];
+    unsigned long exchanges = 0, wrong = 0;
+    long n;
+    int whole = read_text(0) && (count < 2 || read_grants(words[1]));
+    before_the_log();
     n = next_line(uid, sizeof uid);
     expect(n >= 0 && mainspur_fresh(uid, (mainspur_size)n, image, IMAGE) == 0, "the fresh tag");
     if (differ) return 1;
     call_refusals(image);
-    fill(blank, 0xA5, BIG);
     for (;;) {
         long c = next_line(command, BIG), r = next_line(reply, BIG), k = next_line(random, BIG);
         if (c < 0 || r < 0 || k < 0) break;
-        fill(room, 0xA5, BIG);
-        mainspur_size got = mainspur_call(image, IMAGE, command, (mainspur_size)c, random, (mainspur_size)k, room, BIG);
         exchanges++;
-        if (got == (mainspur_size)r && same(room, reply, got) && same(room + got, blank + got, BIG - got)) continue;
+        if (!exchange_differs(image, command, c, reply, r, random, k)) continue;
         wrong++;
         print("differs: exchange ");
         print_number(exchanges);
         print("\n");
     }
     expect(at >= text_length && whole, "the log was not read to its end");
+    expect(no_more_grants(), "a grant for which there is no exchange");
     call_refusals(image);
     print_number(exchanges);
     print(" exchanges, ");

@@ -1,8 +1,10 @@
--- 01, "Access and modes" (8.2.3, Tables 6 to 12): one decision for both classes.
+-- 01, "Access and modes" (8.2.3, Tables 6 to 12), and 02, request 5: one decision for both classes, which says how it grants and under
+-- which right.
 use mathlib.Core.Bool.{Bool, true, false, not}
+use mathlib.Core.List.{List, [], _∷_}
 use Prim.Native.Nat.{ℕ}
 use lib.Dec.{eqb, leb}
-use Rattle.base.specs.Decide.{pick, and, or}
+use Rattle.base.specs.Decide.{pick, and}
 use Rattle.base.specs.Status.{operationOk, permissionDenied, authenticationError, isoNormal, isoSecurity}
 use Rattle.messaging.specs.declared.Mode.{Mode}
 use Rattle.messaging.specs.declared.Mode.the-variants.{Plain, Mac, Full}
@@ -13,36 +15,52 @@ use Rattle.order.specs.declared.Name.the-variants.{AuthenticateFirst, Authentic
 use Rattle.order.specs.declared.Name.the-variants.{GetFileSettings, ChangeFileSettings, GetFileCounters, ReadData, WriteData}
 use Rattle.order.specs.declared.Name.the-variants.{IsoSelectFile, IsoReadBinary, IsoUpdateBinary}
 use Rattle.state.specs.declared.Live.{Live}
+use Rattle.access.specs.declared.Right.{Right}
+use Rattle.access.specs.declared.Right.the-variants.{Read, Write, ReadWrite, Change, SdmMetaRead, SdmFileRead, SdmCtrRet}
 use Rattle.access.specs.declared.Grant.{Grant}
 use Rattle.access.specs.declared.Grant.the-variants.{ByKey, ByTap, Free, Unasked, Never, Denied}
 use Rattle.access.specs.declared.Decision.{Decision}
 
--- a condition of a, b is c
-abbrev pub either : ℕ → ℕ → ℕ → Bool
-either a b c = or (eqb a c) (eqb b c)
+-- the condition of a right in a file's settings
+unfoldable pub conditionOf : Right → Head → ℕ
+conditionOf Read h = h .read
+conditionOf Write h = h .write
+conditionOf ReadWrite h = h .«read_write»
+conditionOf Change h = h .change
+conditionOf SdmMetaRead h = h .«sdm_meta_read»
+conditionOf SdmFileRead h = h .«sdm_file_read»
+conditionOf SdmCtrRet h = h .«sdm_ctr_ret»
 
--- Two rights a and b, and for a read with SDM on SDMFileRead (else F). In session a condition equal to the key grants;
--- without session SDMFileRead 0 to 4 is read with mirroring; failing that, E grants. Not granted: every condition F, or not.
-unfoldable pub granted : Bool → ℕ → ℕ → ℕ → ℕ → Grant
-granted live key a b c =
-    pick (and live (either a b key)) ByKey
-    (pick (and (pick live false true) (leb c 4)) ByTap
-    (pick (either a b 14) Free
-    (pick (and (eqb a 15) (and (eqb b 15) (eqb c 15))) Never Denied)))
+-- the first of these rights whose condition is c grants so; failing that, the rest decides
+unfoldable pub firstOf : ℕ → (Right → Grant) → List Right → Head → Grant → Grant
+firstOf c so [] h rest = rest
+firstOf c so (r ∷ rs) h rest = pick (eqb (conditionOf r h) c) (so r) (firstOf c so rs h rest)
+
+-- every condition concerned is F, SDMFileRead too
+unfoldable pub allNever : List Right → Head → ℕ → Bool
+allNever [] h file = eqb file 15
+allNever (r ∷ rs) h file = and (eqb (conditionOf r h) 15) (allNever rs h file)
+
+-- The rights that a command looks at, in Table 9's order, and for a read with SDM on SDMFileRead (else F). In session a condition equal to the
+-- key grants; without session SDMFileRead 0 to 4 is read with mirroring; failing that, E grants. Not granted: every condition F, or not.
+unfoldable pub granted : Live → Head → List Right → ℕ → Grant
+granted l h asked file =
+    let free = firstOf 14 Free asked h (pick (allNever asked h file) Never Denied) in
+    pick (l .on) (firstOf (l .key) ByKey asked h free) (pick (leb file 4) ByTap free)
 
 -- reads look at Read and ReadWrite, writes at Write and ReadWrite
 unfoldable pub readGrant : Live → Head → Grant
-readGrant l h = granted (l .on) (l .key) (h .read) (h .«read_write») (pick (h .sdm) (h .«sdm_file_read») 15)
+readGrant l h = granted l h (Read ∷ ReadWrite ∷ []) (pick (h .sdm) (h .«sdm_file_read») 15)
 
 unfoldable pub writeGrant : Live → Head → Grant
-writeGrant l h = granted (l .on) (l .key) (h .write) (h .«read_write») 15
+writeGrant l h = granted l h (Write ∷ ReadWrite ∷ []) 15
 
 -- ChangeFileSettings uses Change, GetFileCounters SDMCtrRet, by the same rule; counters with SDM off: 919D
 unfoldable pub changeGrant : Live → Head → Grant
-changeGrant l h = granted (l .on) (l .key) (h .change) (h .change) 15
+changeGrant l h = granted l h (Change ∷ []) 15
 
 unfoldable pub counterGrant : Live → Head → Grant
-counterGrant l h = pick (h .sdm) (granted (l .on) (l .key) (h .«sdm_ctr_ret») (h .«sdm_ctr_ret») 15) Never
+counterGrant l h = pick (h .sdm) (granted l h (SdmCtrRet ∷ []) 15) Never
 
 -- GetFileSettings and GetKeyVersion are always granted; GetCardUID needs a session; ChangeKey needs key 0; the authentications
 -- and selects have no access step
@@ -68,9 +86,9 @@ fileMode m = pick (eqb m (modeNumber Mac)) Mac (pick (eqb m (modeNumber Full)) F
 
 -- a key grants in the given mode, E and the tap rule in Plain
 unfoldable pub underKey : Grant → Mode → Mode
-underKey ByKey m = m
+underKey (ByKey r) m = m
 underKey ByTap m = Plain
-underKey Free m = Plain
+underKey (Free r) m = Plain
 underKey Unasked m = Plain
 underKey Never m = Plain
 underKey Denied m = Plain
@@ -121,9 +139,9 @@ decided n l h =
 
 -- 01's status of a grant: not granted 919D if all conditions concerned are F, else 91AE; of CLA 00 6982
 unfoldable pub grantStatus : ℕ → Grant → ℕ
-grantStatus class ByKey = pick (eqb class 0x90) operationOk isoNormal
+grantStatus class (ByKey r) = pick (eqb class 0x90) operationOk isoNormal
 grantStatus class ByTap = pick (eqb class 0x90) operationOk isoNormal
-grantStatus class Free = pick (eqb class 0x90) operationOk isoNormal
+grantStatus class (Free r) = pick (eqb class 0x90) operationOk isoNormal
 grantStatus class Unasked = pick (eqb class 0x90) operationOk isoNormal
 grantStatus class Never = pick (eqb class 0x90) permissionDenied isoSecurity
 grantStatus class Denied = pick (eqb class 0x90) authenticationError isoSecurity

@@ -1,55 +1,108 @@
 // Access and mode (8.2.3, Tables 6 to 12).
 ghost use mathlib.Core.Path.{_≡_};
 ghost use mathlib.Core.Bool.{not};
-ghost use lib.Dec.{eqb};
+ghost use mathlib.Core.List.{[], _∷_};
+ghost use lib.Dec.{eqb, leb};
 ghost use Rattle.base.specs.Decide.{pick, and};
 ghost use Rattle.messaging.specs.declared.Mode.the-variants.{Plain, Mac};
-ghost use Rattle.access.specs.declared.Grant.the-variants.{Free, Unasked, Never, Denied};
-ghost use Rattle.access.specs.Access.{either, granted, readGrant, writeGrant, changeGrant, counterGrant, grantFor, fileMode, underKey, modeFor, reads, decided};
+ghost use Rattle.access.specs.declared.Grant.the-variants.{ByKey, ByTap, Free, Unasked, Never, Denied};
+ghost use Rattle.access.specs.Access.{conditionOf, granted, readGrant, writeGrant, changeGrant, counterGrant, grantFor, fileMode, underKey, modeFor, reads, decided};
 use crate::Decision;
 use crate::Grant;
+use crate::Right;
 use fields::Head;
 use messaging::Mode;
 use order::Name;
 use state::Live;
 
-// Without a key: E in either right grants, and all F is never.
-fn without_key(a: u8, b: u8, c: u8) -> Grant
-    ensures { λ r. ⌜ r ≡ pick (either a b 14) Free (pick (and (eqb a 15) (and (eqb b 15) (eqb c 15))) Never Denied) ⌝ }
+// The condition of a right.
+fn condition(r: Right, h: Head) -> u8
+    ensures { λ c. ⌜ c ≡ conditionOf r h ⌝ }
 {
-    if a == 14 {
-        return Grant::Free;
+    match r {
+        Right::Read => h.read,
+        Right::Write => h.write,
+        Right::ReadWrite => h.read_write,
+        Right::Change => h.change,
+        Right::SdmMetaRead => h.sdm_meta_read,
+        Right::SdmFileRead => h.sdm_file_read,
+        Right::SdmCtrRet => h.sdm_ctr_ret,
     }
-    if b == 14 {
-        return Grant::Free;
+}
+
+// The key in a condition grants under its right; failing that, the rest decides.
+fn by_key(c: u8, key: u8, r: Right, rest: Grant) -> Grant
+    ensures { λ g. ⌜ g ≡ pick (eqb c key) (ByKey r) rest ⌝ }
+{
+    if c == key {
+        return Grant::ByKey(r);
     }
-    if a == 15 {
-        if b == 15 {
-            if c == 15 {
-                return Grant::Never;
-            }
-        }
+    rest
+}
+
+// The same of E.
+fn by_e(c: u8, r: Right, rest: Grant) -> Grant
+    ensures { λ g. ⌜ g ≡ pick (eqb c 14) (Free r) rest ⌝ }
+{
+    if c == 14 {
+        return Grant::Free(r);
+    }
+    rest
+}
+
+// F in a condition, and in the rest.
+fn is_never(c: u8, rest: bool) -> bool
+    ensures { λ b. ⌜ b ≡ and (eqb c 15) rest ⌝ }
+{
+    if c == 15 {
+        return rest;
+    }
+    false
+}
+
+// Not granted: never where every condition is F.
+fn refused(never: bool) -> Grant
+    ensures { λ g. ⌜ g ≡ pick never Never Denied ⌝ }
+{
+    if never {
+        return Grant::Never;
     }
     Grant::Denied
 }
 
-// Two rights, and a third that only the tap rule and the question of F look at.
-fn granted(live: bool, key: u8, a: u8, b: u8, c: u8) -> Grant
-    ensures { λ r. ⌜ r ≡ granted live key a b c ⌝ }
+// In session what the key grants; without one SDMFileRead 0 to 4 is a tap, failing that what E grants.
+fn by_session(live: bool, file: u8, keyed: Grant, free: Grant) -> Grant
+    ensures { λ g. ⌜ g ≡ pick live keyed (pick (leb file 4) ByTap free) ⌝ }
 {
     if live {
-        if a == key {
-            return Grant::ByKey;
-        }
-        if b == key {
-            return Grant::ByKey;
-        }
-        return without_key(a, b, c);
+        return keyed;
     }
-    if c <= 4 {
+    if file <= 4 {
         return Grant::ByTap;
     }
-    without_key(a, b, c)
+    free
+}
+
+// A command that looks at one right.
+fn one_right(l: Live, h: Head, a: Right) -> Grant
+    ensures { λ g. ⌜ g ≡ granted l h (a ∷ []) 15 ⌝ }
+{
+    let c = condition(a, h);
+    let free = by_e(c, a, refused(is_never(c, true)));
+    let keyed = by_key(c, l.key, a, free);
+    by_session(l.on, 15, keyed, free)
+}
+
+// A command that looks at two, and a read at SDMFileRead too.
+fn two_rights(l: Live, h: Head, a: Right, b: Right, file: u8) -> Grant
+    ensures { λ g. ⌜ g ≡ granted l h (a ∷ b ∷ []) file ⌝ }
+{
+    let c = condition(a, h);
+    let d = condition(b, h);
+    let none = refused(is_never(c, is_never(d, file == 15)));
+    let free = by_e(c, a, by_e(d, b, none));
+    let keyed = by_key(c, l.key, a, by_key(d, l.key, b, free));
+    by_session(l.on, file, keyed, free)
 }
 
 // SDMFileRead with SDM on, F with SDM off.
@@ -63,27 +116,22 @@ fn tap_right(sdm: bool, file: u8) -> u8
 fn read_grant(l: Live, h: Head) -> Grant
     ensures { λ r. ⌜ r ≡ readGrant l h ⌝ }
 {
-    granted(
-        l.on,
-        l.key,
-        h.read,
-        h.read_write,
-        tap_right(h.sdm, h.sdm_file_read),
-    )
+    let file = tap_right(h.sdm, h.sdm_file_read);
+    two_rights(l, h, Right::Read, Right::ReadWrite, file)
 }
 
 // A write looks at Write and ReadWrite.
 fn write_grant(l: Live, h: Head) -> Grant
     ensures { λ r. ⌜ r ≡ writeGrant l h ⌝ }
 {
-    granted(l.on, l.key, h.write, h.read_write, 15)
+    two_rights(l, h, Right::Write, Right::ReadWrite, 15)
 }
 
 // ChangeFileSettings: Change.
 fn change_grant(l: Live, h: Head) -> Grant
     ensures { λ r. ⌜ r ≡ changeGrant l h ⌝ }
 {
-    granted(l.on, l.key, h.change, h.change, 15)
+    one_right(l, h, Right::Change)
 }
 
 // Never with SDM off.
@@ -100,10 +148,7 @@ fn with_sdm(sdm: bool, g: Grant) -> Grant
 fn counter_grant(l: Live, h: Head) -> Grant
     ensures { λ r. ⌜ r ≡ counterGrant l h ⌝ }
 {
-    with_sdm(
-        h.sdm,
-        granted(l.on, l.key, h.sdm_ctr_ret, h.sdm_ctr_ret, 15),
-    )
+    with_sdm(h.sdm, one_right(l, h, Right::SdmCtrRet))
 }
 
 // A session, without any of the rights.
@@ -163,9 +208,9 @@ fn under_key(g: Grant, m: Mode) -> Mode
     ensures { λ r. ⌜ r ≡ underKey g m ⌝ }
 {
     match g {
-        Grant::ByKey => m,
+        Grant::ByKey(_) => m,
         Grant::ByTap => Mode::Plain,
-        Grant::Free => Mode::Plain,
+        Grant::Free(_) => Mode::Plain,
         Grant::Unasked => Mode::Plain,
         Grant::Never => Mode::Plain,
         Grant::Denied => Mode::Plain,

@@ -9,44 +9,46 @@ use Rattle.replies.specs.Answer.{Answer}
 use Rattle.tag.specs.declared.Called.{Called}
 use Rattle.tag.specs.declared.Outcome.{Outcome}
 use Rattle.tag.specs.declared.Outcome.the-variants.{Replied, SmallRoom, WrongRandom, Unsound}
-use Rattle.tag.specs.Way.{answered}
-use Rattle.tag.specs.Call.{replyOf, outcomeOf, replied, unanswered, byOutcome, roomBy, Calls}
+use Rattle.access.specs.declared.Noted.{Noted}
+use Rattle.tag.specs.Way.{answered, noted}
+use Rattle.tag.specs.Call.{replyOf, outcomeOf, replied, unanswered, byOutcome, roomBy, notedBy, Calls}
 use Rattle.series.specs.Series.{Asked, step, after}
 use Rattle.demands.specs.Talks.{Said, heard, said, saidAll, Had, saying, Speaks, Played, held, sayings, SpeaksAll}
 
 -- ---- each outcome
-says-outcome : (t : Tag) (x : Answer) (room : List ℕ) (o : Outcome)
-    → saying (record { result = byOutcome t x o; room = roomBy x room o }) ≡ record { outcome = o; reply = heard x o }
+says-outcome : (t : Tag) (x : Answer) (n : Noted) (room : List ℕ) (o : Outcome)
+    → saying (record { result = byOutcome t x n o; room = roomBy x room o }) ≡ record { outcome = o; reply = heard x o; noted = notedBy n o }
 unfolding replied unanswered
-says-outcome t x room Replied =
-    let said-by : List ℕ → Said = λ s. record { outcome = Replied; reply = s } in
+says-outcome t x n room Replied =
+    let said-by : List ℕ → Said = λ s. record { outcome = Replied; reply = s; noted = n } in
     ap said-by (take-append-seam (replyOf x) (drop (length (replyOf x)) room))
-says-outcome t x room SmallRoom = refl
-says-outcome t x room WrongRandom = refl
-says-outcome t x room Unsound = refl
+says-outcome t x n room SmallRoom = refl
+says-outcome t x n room WrongRandom = refl
+says-outcome t x n room Unsound = refl
 
-rest-outcome : (t : Tag) (x : Answer) (room : List ℕ) (o : Outcome)
-    → drop (byOutcome t x o .length) (roomBy x room o) ≡ drop (byOutcome t x o .length) room
+rest-outcome : (t : Tag) (x : Answer) (n : Noted) (room : List ℕ) (o : Outcome)
+    → drop (byOutcome t x n o .length) (roomBy x room o) ≡ drop (byOutcome t x n o .length) room
 unfolding replied unanswered
-rest-outcome t x room Replied = drop-append-seam (replyOf x) (drop (length (replyOf x)) room)
-rest-outcome t x room SmallRoom = refl
-rest-outcome t x room WrongRandom = refl
-rest-outcome t x room Unsound = refl
+rest-outcome t x n room Replied = drop-append-seam (replyOf x) (drop (length (replyOf x)) room)
+rest-outcome t x n room SmallRoom = refl
+rest-outcome t x n room WrongRandom = refl
+rest-outcome t x n room Unsound = refl
 
 -- ---- a call
 pub call-speaks : (t : Tag) (a : Asked) (h : Had) → Calls t (a .command) (a .random) (a .room) (h .result) (h .room) → Speaks t a h
 unfolding step said
 call-speaks t a h p =
     let x = answered t (a .command) (a .random) in
+    let n = noted t (a .command) in
     let o = outcomeOf t (a .random) (a .room) in
     record {
       state = ap (λ (r : Called). r .tag) (p .told);
       says =
           ap₂ (λ (r : Called) (new : List ℕ). saying (record { result = r; room = new })) (p .told) (p .left)
-          ∙ says-outcome t x (a .room) o;
+          ∙ says-outcome t x n (a .room) o;
       rest =
           ap₂ (λ (r : Called) (new : List ℕ). drop (r .length) new) (p .told) (p .left)
-          ∙ rest-outcome t x (a .room) o
+          ∙ rest-outcome t x n (a .room) o
           ∙ sym (ap (λ (r : Called). drop (r .length) (a .room)) (p .told));
     }
 

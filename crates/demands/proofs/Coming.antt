@@ -133,9 +133,9 @@ module _ (t : Tag) (random : List ℕ) (P : Answer → Type 0) (refused : (s : �
 
     grant-comes : (g : Grant) → (allows g ≡ true → P (fromStep7 t k r d x random)) → P (onGrant g t k r d x random)
     unfolding onGrant wrappedCommand
-    grant-comes ByKey h = h refl
+    grant-comes (ByKey w) h = h refl
     grant-comes ByTap h = h refl
-    grant-comes Free h = h refl
+    grant-comes (Free w) h = h refl
     grant-comes Unasked h = h refl
     grant-comes Never h = refused (grantStatus 0x90 Never) never-bars
     grant-comes Denied h = refused (grantStatus 0x90 Denied) denied-bars

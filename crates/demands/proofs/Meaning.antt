@@ -33,7 +33,7 @@ use Rattle.tag.specs.declared.Outcome.{Outcome}
 use Rattle.tag.specs.declared.Outcome.the-variants.{Replied}
 use Rattle.order.specs.Order.{commandData}
 use Rattle.order.specs.Commands.{ordered}
-use Rattle.tag.specs.Way.{commanded, onOrder, answered}
+use Rattle.tag.specs.Way.{commanded, onOrder, answered, noted}
 use Rattle.tag.specs.Call.{withStatus, replyOf, outcomeOf, replied, byOutcome}
 use Rattle.series.specs.Series.{Asked, step, accepting, Typed}
 use Rattle.series.specs.Worked.{selectApplication, settingsOf}
@@ -134,7 +134,7 @@ asking c = record { command = c; random = zeros20; room = zeros258 }
 
 step-moves : (u : Tag) → soundTag u ≡ true → u .pending .on ≡ false → step u (asking selectApplication) ≡ moved u true .tag
 unfolding step replied
-step-moves u e p = ap₂ (λ (a : Answer) (o : Outcome). byOutcome u a o .tag) (select-moves u zeros20 p) (replied-outcome u e)
+step-moves u e p = ap₂ (λ (a : Answer) (o : Outcome). byOutcome u a (noted u selectApplication) o .tag) (select-moves u zeros20 p) (replied-outcome u e)
 
 telling-is : (n : ℕ) → telling n ≡ asking selectApplication ∷ asking (settingsOf n) ∷ []
 unfolding telling

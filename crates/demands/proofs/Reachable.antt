@@ -33,6 +33,7 @@ use Rattle.meanings.proofs.Mirrors.{good-length}
 use Rattle.meanings.proofs.OneMeaning.{one-string, string-bytes}
 use Rattle.order.specs.declared.Name.the-variants.{ChangeFileSettings}
 use Rattle.order.specs.declared.Command.{Command}
+use Rattle.access.specs.declared.Right.the-variants.{Change}
 use Rattle.access.specs.declared.Grant.{Grant}
 use Rattle.access.specs.declared.Grant.the-variants.{ByKey, ByTap, Free, Unasked, Never, Denied}
 use Rattle.access.specs.declared.Decision.{Decision}
@@ -40,7 +41,7 @@ use Rattle.state.specs.declared.Live.{Live}
 use Rattle.state.specs.declared.Tag.{Tag}
 use Rattle.state.specs.State.{rulesOf, readingIn, talking, tapped, filed, sessionOf}
 use Rattle.delivery.specs.Fresh.{rightUid}
-use Rattle.access.specs.Access.{granted, changeGrant, grantFor, underKey, modeFor, decided}
+use Rattle.access.specs.Access.{conditionOf, firstOf, allNever, granted, changeGrant, grantFor, underKey, modeFor, decided}
 use Rattle.soundness.specs.Sound.{soundTag}
 use Rattle.replies.specs.Answer.{Answer, given, accepted, afterwards, raised}
 use Rattle.change_settings.specs.ChangeSettings.{restrung, byVerdict, changedSettings}
@@ -48,7 +49,7 @@ use Rattle.tag.specs.declared.Outcome.the-variants.{Replied}
 use Rattle.order.specs.Order.{headerLength, hasData}
 use Rattle.order.specs.Commands.{wrappedCommand}
 use Rattle.wrapped.specs.Wrapped.{own, onOpening, wrapped}
-use Rattle.tag.specs.Way.{fromStep7, onGrant, fromStep6, answered}
+use Rattle.tag.specs.Way.{fromStep7, onGrant, fromStep6, answered, noted}
 use Rattle.tag.specs.Call.{withStatus, replyOf, outcomeOf, replied, byOutcome, roomBy}
 use Rattle.series.specs.Series.{step, allows}
 use Rattle.series.proofs.Choices.{not-both, way}
@@ -73,7 +74,8 @@ record EGrants (change : ℕ) (m : Mode) : Type 0 where
   mode : m ≡ Plain
 
 by-grant : (live : Bool) (key change : ℕ) (m : Mode) (k e f : Bool) → eqb change key ≡ k → eqb change 14 ≡ e
-    → let g = pick (and live (or k k)) ByKey (pick (and (pick live false true) false) ByTap (pick (or e e) Free (pick (and f (and f true)) Never Denied))) in
+    → let free = pick e (Free Change) (pick (and f true) Never Denied) in
+    let g = pick live (pick k (ByKey Change) free) (pick false ByTap free) in
     allows g ≡ true → underKey g Full ≡ m → KeyGrants live key change m ⊎ EGrants change m
 unfolding underKey
 by-grant true key change m true e f p q a d = inl (record { on = refl; right = eqb-true change key p; mode = sym d })
@@ -86,7 +88,7 @@ by-grant false key change m k false false p q a d = absurd (not-both a)
 
 change-due : (l : Live) (h : Head) (m : Mode) → allows (grantFor ChangeFileSettings l h) ≡ true → decided ChangeFileSettings l h .mode ≡ m
     → KeyGrants (l .on) (l .key) (h .change) m ⊎ EGrants (h .change) m
-unfolding grantFor changeGrant granted decided modeFor
+unfolding grantFor changeGrant granted firstOf allNever conditionOf decided modeFor
 change-due l h m =
     by-grant (l .on) (l .key) (h .change) m (eqb (h .change) (l .key)) (eqb (h .change) 14) (eqb (h .change) 15) refl refl
 
@@ -132,9 +134,9 @@ ready-allows t n m h = h .allowed
 granted-on : (g : Grant) (t : Tag) (k : Command) (r : Reading) (d : Decision) (x random : List ℕ) (P : Answer → Type 0) → allows g ≡ true
     → P (fromStep7 t k r d x random) → P (onGrant g t k r d x random)
 unfolding onGrant
-granted-on ByKey t k r d x random P a p = p
+granted-on (ByKey w) t k r d x random P a p = p
 granted-on ByTap t k r d x random P a p = p
-granted-on Free t k r d x random P a p = p
+granted-on (Free w) t k r d x random P a p = p
 granted-on Unasked t k r d x random P a p = p
 granted-on Never t k r d x random P a p = absurd (not-both a)
 granted-on Denied t k r d x random P a p = absurd (not-both a)
@@ -246,7 +248,7 @@ module _ (t : Tag) (n : ℕ) (r : Settings) (m : Mode) (h : Ready t n m) (e : me
 
     stepped : step t (asking t n r m random room) ≡ changed t n (stringOf r)
     unfolding step replied
-    stepped = ap (λ o. byOutcome t (answered t (changing t m n (stringOf r)) random) o .tag) replies ∙ ap (λ a. a .tag) reach
+    stepped = ap (λ o. byOutcome t (answered t (changing t m n (stringOf r)) random) (noted t (changing t m n (stringOf r))) o .tag) replies ∙ ap (λ a. a .tag) reach
 
     held : rulesOf (step t (asking t n r m random room) .files) n ≡ stringOf r
     held = ap (λ u. rulesOf (u .files) n) stepped ∙ kept

@@ -4,6 +4,7 @@ use mathlib.Core.Path.{refl}
 use Rattle.opening.specs.Command.{sentCommand}
 use Rattle.fields.specs.Fields.{listed, frontBytes, stringOf}
 use Rattle.rules.specs.Rules.{fieldFits, fieldsFit, sdmAbsent, sdmPart, modes, meets}
+use Rattle.tag.specs.Way.{noted}
 use Rattle.tag.specs.Call.{outcomeOf, replied, unanswered}
 use Rattle.series.specs.Series.{accepting, accepts, step, after}
 use Rattle.series.specs.Worked.{selectApplication, settingsOf, inApplication}
@@ -15,7 +16,7 @@ use Rattle.demands.specs.Samples.{Forms, NotSound, NotEnded, NotSame, No
 
 -- the words of the samples
 unfoldable pub a-sample : Bool
-unfolding tagOf sample someUid changeable misnamed zeros20 zeros258 calling changeOfFile changeTo toldOf built step after outcomeOf replied unanswered
+unfolding tagOf sample someUid changeable misnamed zeros20 zeros258 calling changeOfFile changeTo toldOf built step after noted outcomeOf replied unanswered
 a-sample = true
 
 pub forms : Forms

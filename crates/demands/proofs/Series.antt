@@ -27,7 +27,7 @@ use Rattle.selects.specs.Selects.{moved, selectedFile}
 use Rattle.tag.specs.declared.Outcome.{Outcome}
 use Rattle.tag.specs.declared.Outcome.the-variants.{Replied, SmallRoom, WrongRandom, Unsound}
 use Rattle.order.specs.Order.{commandData}
-use Rattle.tag.specs.Way.{answered}
+use Rattle.tag.specs.Way.{answered, noted}
 use Rattle.tag.specs.Call.{outcomeOf, replied, unanswered, byOutcome}
 use Rattle.series.specs.Series.{Asked, step, after, accepting, replies, accepts, Typed}
 use Rattle.series.proofs.Choices.{not-both, way}
@@ -135,7 +135,7 @@ unfolding step changes accepts replied unanswered
 step-rules t f a n h = by (outcomeOf t (a .random) (a .room))
   where
     by : (o : Outcome)
-        → rulesOf (byOutcome t (answered t (a .command) (a .random)) o .tag .files) n
+        → rulesOf (byOutcome t (answered t (a .command) (a .random)) (noted t (a .command)) o .tag .files) n
         ≡ pick (and (isChange (a .command) n) (and (replies o) (accepting (answered t (a .command) (a .random) .status))))
         (normal (stringIn t (a .command))) (rulesOf (t .files) n)
     by Replied = answered-rules t f (a .command) (a .random) n h

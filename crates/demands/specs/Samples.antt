@@ -15,6 +15,8 @@ use Rattle.delivery.specs.Fresh.{noTap, freshTag}
 use Rattle.soundness.specs.Sound.{soundTag}
 use Rattle.replies.specs.Answer.{Answer}
 use Rattle.details.specs.Details.{settingsReply}
+use Rattle.access.specs.declared.Grant.the-variants.{Unasked}
+use Rattle.access.specs.declared.Noted.the-variants.{Decided}
 use Rattle.tag.specs.declared.Outcome.the-variants.{Replied, SmallRoom, WrongRandom, Unsound}
 use Rattle.tag.specs.Way.{answered}
 use Rattle.tag.specs.Call.{outcomeOf}
@@ -107,11 +109,11 @@ changeTo option = changeOfFile 2 option
 abbrev pub changedBy : Tag → ℕ → Answer
 changedBy t option = answered t (changeTo option) zeros20
 
--- what `telling 2` is answered by a tag whose file 2 has that FileOption: 9000; 00, the string with its size, 9100
+-- what `telling 2` is answered by a tag whose file 2 has that FileOption: 9000; 00, the string with its size, 9100; both under none of the rights
 unfoldable pub toldOf : ℕ → List Said
 toldOf option =
-    record { outcome = Replied; reply = 0x90 ∷ 0x00 ∷ [] }
-    ∷ record { outcome = Replied; reply = 0x00 ∷ option ∷ 0xEE ∷ 0xEE ∷ 0x00 ∷ 0x01 ∷ 0x00 ∷ 0x91 ∷ 0x00 ∷ [] }
+    record { outcome = Replied; reply = 0x90 ∷ 0x00 ∷ []; noted = Decided Unasked }
+    ∷ record { outcome = Replied; reply = 0x00 ∷ option ∷ 0xEE ∷ 0xEE ∷ 0x00 ∷ 0x01 ∷ 0x00 ∷ 0x91 ∷ 0x00 ∷ []; noted = Decided Unasked }
     ∷ []
 
 -- ---- demand 3, statement 1: two strings with one normal form (mode bits 10 and 00), and one with another (11)

@@ -14,6 +14,7 @@ use Rattle.fields.specs.Normal.{normal}
 use Rattle.state.specs.declared.Tag.{Tag}
 use Rattle.state.specs.State.{sizeOf, readingIn, sessionOf}
 use Rattle.delivery.specs.Fresh.{firstRules, secondRules, thirdRules}
+use Rattle.access.specs.declared.Noted.{Noted}
 use Rattle.access.specs.Access.{decided}
 use Rattle.replies.specs.Answer.{Answer, raised}
 use Rattle.details.specs.Details.{settingsReply}
@@ -24,15 +25,16 @@ use Rattle.order.specs.declared.Name.the-variants.{ChangeFileSettings}
 use Rattle.order.specs.Order.{commandData}
 use Rattle.order.specs.Commands.{wrappedCommand}
 use Rattle.wrapped.specs.Wrapped.{openingOf}
-use Rattle.tag.specs.Way.{answered}
-use Rattle.tag.specs.Call.{replyOf, outcomeOf, Calls}
+use Rattle.tag.specs.Way.{answered, noted}
+use Rattle.tag.specs.Call.{replyOf, outcomeOf, notedBy, Calls}
 use Rattle.series.specs.Series.{Asked, step, after, accepts}
 use Rattle.series.specs.Worked.{selectApplication, settingsOf}
 
--- what a call says: its outcome and the reply, none where it is refused
+-- what a call says: its outcome, the reply, none where it is refused, and what a journal notes of it
 pub record Said : Type 0 where
   pub outcome : Outcome
   pub reply : List ℕ
+  pub noted : Noted
 
 abbrev pub heard : Answer → Outcome → List ℕ
 heard a Replied = replyOf a
@@ -43,13 +45,13 @@ heard a Unsound = []
 unfoldable pub said : Tag → Asked → Said
 said t a =
     let o = outcomeOf t (a .random) (a .room) in
-    record { outcome = o; reply = heard (answered t (a .command) (a .random)) o }
+    record { outcome = o; reply = heard (answered t (a .command) (a .random)) o; noted = notedBy (noted t (a .command)) o }
 
 unfoldable pub saidAll : Tag → List Asked → List Said
 saidAll t [] = []
 saidAll t (a ∷ more) = said t a ∷ saidAll (step t a) more
 
--- two tags behave alike: the same replies to every later series of commands
+-- two tags behave alike: they say the same to every later series of commands
 unfoldable pub Alike : Tag → Tag → Type 0
 Alike t u = (asked : List Asked) → saidAll t asked ≡ saidAll u asked
 
@@ -59,11 +61,11 @@ pub record Had : Type 0 where
   pub result : Called
   pub room : List ℕ
 
--- what that says: the outcome, and as many bytes of the room as the length says
+-- what that says: the outcome, as many bytes of the room as the length says, and what is noted
 abbrev pub saying : Had → Said
-saying h = record { outcome = h .result .outcome; reply = take (h .result .length) (h .room) }
+saying h = record { outcome = h .result .outcome; reply = take (h .result .length) (h .room); noted = h .result .noted }
 
--- the next state is that of `step`, outcome and reply are those of `said`, and the rest of the room is as it was
+-- the next state is that of `step`, outcome, reply and what is noted are those of `said`, and the rest of the room is as it was
 pub record Speaks (t : Tag) (a : Asked) (h : Had) : Type 0 where
   pub state : h .result .tag ≡ step t a
   pub says : saying h ≡ said t a

@@ -24,6 +24,7 @@ use Rattle.delivery.specs.declared.Birth.{Birth}
 use Rattle.delivery.specs.Fresh.{Births}
 use Rattle.replies.specs.declared.Done.{Done}
 use Rattle.replies.specs.Answer.{Answer, answerOf, Gives}
+use Rattle.access.specs.declared.Noted.{Noted}
 use Rattle.tag.specs.declared.Called.{Called}
 use Rattle.tag.specs.Call.{Calls, Laid, Replies}
 use Rattle.determined.specs.Determining.{Determined, DeterminedIn, DeterminedRooms, DeterminedThree, SameText, DeterminedText}
@@ -80,7 +81,7 @@ mirrors-once n m b other p h = twice n m b other (p .count, p .bytes) (h .count,
 pub laid-once : {text old : List ℕ} → DeterminedIn (λ (n : ℕ) (new : List ℕ). Laid text old n new)
 laid-once n m new other p h = twice n m new other (p .count, p .room) (h .count, h .room)
 
-pub replies-once : {a : Answer} {old : List ℕ} → DeterminedIn (λ (r : Called) (new : List ℕ). Replies a old r new)
+pub replies-once : {a : Answer} {n : Noted} {old : List ℕ} → DeterminedIn (λ (r : Called) (new : List ℕ). Replies a n old r new)
 replies-once r q new other p h = twice r q new other (p .told, p .left) (h .told, h .left)
 
 -- ---- answers: all that an answer says is determined, and its length

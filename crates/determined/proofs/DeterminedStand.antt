@@ -30,6 +30,7 @@ use Rattle.arguments.specs.Arguments.{Asks, besideLength, besideRoom}
 use Rattle.arguments.specs.declared.Asked.{Asked}
 use Rattle.forms.specs.Rooms.{Lays}
 use Rattle.forms.specs.Forms.{formOf}
+use Rattle.telling.specs.declared.Journal.{Journal}
 use Rattle.telling.specs.Turns.{lineText}
 use Rattle.tallies.specs.Counts.{countedBy, noTally}
 use Rattle.tallies.specs.declared.Tally.{Tally}
@@ -37,8 +38,8 @@ use Rattle.tallies.specs.declared.Went.{Went}
 use Rattle.turns.specs.Lines.{lineActed, lineTold}
 use Rattle.turns.specs.declared.Taken.{Taken}
 use Rattle.summaries.specs.Summary.{summaryOf}
-use Rattle.determined.specs.Determining.{Determined, DeterminedIn, DeterminedRooms, DeterminedThree}
-use Rattle.determined.proofs.Determined.{once, twice, thrice, fourfold}
+use Rattle.determined.specs.Determining.{Determined, DeterminedIn, DeterminedThree}
+use Rattle.determined.proofs.Determined.{once, twice, fourfold}
 
 -- ---- image
 pub image-length-determined : Determined (λ (r : ℕ). r ≡ imageLength)
@@ -68,10 +69,10 @@ pub from-image-determined : (s : List ℕ)
 from-image-determined s r q p h = once r q (p .0) (h .0)
 
 -- ---- playing
-pub play-determined : (state command random room : List ℕ)
-    → DeterminedRooms (λ (r : ℕ) (new-state new-room : List ℕ). Plays state command random room r new-state new-room)
-play-determined state command random room r q first₁ first₂ second₁ second₂ p h =
-    thrice r q first₁ first₂ second₁ second₂ (p .number, (p .kept, p .left)) (h .number, (h .kept, h .left))
+pub play-determined : (state command random room journal : List ℕ)
+    → DeterminedThree (λ (r : ℕ) (new-state new-room new-journal : List ℕ). Plays state command random room journal r new-state new-room new-journal)
+play-determined state command random room journal r q state₁ state₂ room₁ room₂ journal₁ journal₂ p h =
+    fourfold r q state₁ state₂ room₁ room₂ journal₁ journal₂ (p .number, (p .kept, (p .left, p .notes))) (h .number, (h .kept, (h .left, h .notes)))
 
 -- ---- stand
 pub mainspur-image-length-determined : Determined (λ (r : ℕ). r ≡ imageLength)
@@ -80,10 +81,10 @@ mainspur-image-length-determined = once
 pub mainspur-fresh-determined : (uid state : List ℕ) → DeterminedIn (λ (r : ℕ) (new : List ℕ). Makes uid state r new)
 mainspur-fresh-determined uid state r q new other p h = twice r q new other (p .number, p .left) (h .number, h .left)
 
-pub mainspur-call-determined : (state command random room : List ℕ)
-    → DeterminedRooms (λ (r : ℕ) (new-state new-room : List ℕ). Plays state command random room r new-state new-room)
-mainspur-call-determined state command random room r q state₁ state₂ room₁ room₂ p h =
-    thrice r q state₁ state₂ room₁ room₂ (p .number, (p .kept, p .left)) (h .number, (h .kept, h .left))
+pub mainspur-call-determined : (state command random room journal : List ℕ)
+    → DeterminedThree (λ (r : ℕ) (new-state new-room new-journal : List ℕ). Plays state command random room journal r new-state new-room new-journal)
+mainspur-call-determined state command random room journal r q state₁ state₂ room₁ room₂ journal₁ journal₂ p h =
+    fourfold r q state₁ state₂ room₁ room₂ journal₁ journal₂ (p .number, (p .kept, (p .left, p .notes))) (h .number, (h .kept, (h .left, h .notes)))
 
 pub mainspur-settings-check-determined : (file : ℕ) (text : List ℕ) → Determined (λ (r : ℕ). r ≡ verdictWord (judged file text))
 mainspur-settings-check-determined file text = once
@@ -151,9 +152,9 @@ pub append-form-determined : (form numbers : List ℕ) (flags : List Bool) (room
 append-form-determined form numbers flags room n = append-determined (formOf true form numbers flags) room n
 
 -- ---- telling
-pub line-text-determined : (number : ℕ) (m : Meaning) (c reply e : List ℕ) (undrawn unmet : Bool) (room : List ℕ)
-    → DeterminedIn (λ (r : ℕ) (new : List ℕ). Lays (lineText number m c reply e undrawn unmet) 0 room r new)
-line-text-determined number m c reply e undrawn unmet room = append-determined (lineText number m c reply e undrawn unmet) room 0
+pub line-text-determined : (number : ℕ) (m : Meaning) (c reply : List ℕ) (j : Journal) (e : List ℕ) (undrawn unmet : Bool) (room : List ℕ)
+    → DeterminedIn (λ (r : ℕ) (new : List ℕ). Lays (lineText number m c reply j e undrawn unmet) 0 room r new)
+line-text-determined number m c reply j e undrawn unmet room = append-determined (lineText number m c reply j e undrawn unmet) room 0
 
 -- ---- tallies
 pub counted-determined : (n : Tally) (number : ℕ) (w : Went) → Determined (λ (r : Tally). r ≡ countedBy n number w)

@@ -27,6 +27,9 @@ use Rattle.file_parts.specs.Filing.{partOf, stored, storedIso, withBytes}
 use Rattle.taps.specs.Taps.{tapRead}
 use Rattle.contents.specs.Contents.{readData, writtenData}
 use Rattle.selects.specs.Selects.{selected}
+use Rattle.access.specs.declared.Noted.{Noted}
+use Rattle.access.specs.declared.Marks.{Marks}
+use Rattle.access.specs.Marks.{marksOf}
 use Rattle.access.specs.Access.{decided}
 use Rattle.binaries.specs.Binaries.{binary}
 use Rattle.delivery.specs.Fresh.{Births}
@@ -167,6 +170,9 @@ select-determined tag p1 p2 d = gives-once
 -- ---- access
 pub decide-determined : (name : Name) (l : Live) (h : Head) → Determined (λ (r : Decision). r ≡ decided name l h)
 decide-determined name l h = once
+
+pub marked-determined : (n : Noted) → Determined (λ (m : Marks). m ≡ marksOf n)
+marked-determined n = once
 
 -- ---- binaries
 pub binary-determined : (tag : Tag) (k : Command) (r : Reading) (d : Decision) (x random : List ℕ) → SpansFit r → DeterminedText (λ (y : Done). Gives (binary tag k r d x random) y)

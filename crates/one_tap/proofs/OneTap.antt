@@ -20,7 +20,7 @@ use Rattle.replies.specs.Answer.{Answer}
 use Rattle.taps.specs.Taps.{goesOn, started, tapOf, tapText, tapPart}
 use Rattle.tag.specs.declared.Outcome.{Outcome}
 use Rattle.tag.specs.declared.Outcome.the-variants.{Replied, SmallRoom, WrongRandom, Unsound}
-use Rattle.tag.specs.Way.{answered}
+use Rattle.tag.specs.Way.{answered, noted}
 use Rattle.tag.specs.Call.{withStatus, replyOf, outcomeOf, replied, byOutcome}
 use Rattle.series.specs.Series.{Asked, step, after, replies, accepting, accepts}
 use Rattle.series.proofs.Choices.{not-both, way, not-true}
@@ -76,7 +76,7 @@ module _ (t : Tag) (a : Asked) (iso : Bool) (h : Taps t a iso) where
 
   step-is : step t a ≡ now
   unfolding step replied tapPart
-  step-is = ap₂ (λ (x : Answer) (o : Outcome). byOutcome t x o .tag) answer-is (has-reply t a (h .reads .accepted))
+  step-is = ap₂ (λ (x : Answer) (o : Outcome). byOutcome t x (noted t (a .command)) o .tag) answer-is (has-reply t a (h .reads .accepted))
 
   said-is : said t a .reply ≡ withStatus (partAsked (textOf now) (a .command) iso) (pick iso isoNormal operationOk)
   unfolding said replyOf tapPart partAsked textOf tapped

@@ -213,9 +213,9 @@ module _ (t : Tag) (random : List ℕ) (free : t .live .on ≡ false) (sdm : rea
 
       iso-grant : (g : Grant) → R (onGrant g t j r e x random)
       unfolding onGrant isoCommand
-      iso-grant ByKey = iso-step7
+      iso-grant (ByKey w) = iso-step7
       iso-grant ByTap = iso-step7
-      iso-grant Free = iso-step7
+      iso-grant (Free w) = iso-step7
       iso-grant Unasked = iso-step7
       iso-grant Never = refused true place many (grantStatus 0x00 Never) iso-never-bars
       iso-grant Denied = refused true place many (grantStatus 0x00 Denied) iso-denied-bars

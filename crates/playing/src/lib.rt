@@ -1,16 +1,37 @@
 // What the tag in an image of 684 bytes answers to a command, by numbers.
 ghost use mathlib.Core.Path.{_≡_};
 ghost use lib.ListN.{length};
-ghost use Rattle.playing.specs.Answers.{Answers, Plays};
+ghost use Rattle.playing.specs.Answers.{journalOf, Answers, Plays};
+use access::Noted;
 use state::Tag;
 use tag::Outcome;
 
+// What a call notes, over the journal.
+fn note(n: Noted, journal: &mut [u8])
+    requires { ⌜ length (now journal) ≡ 16 ⌝ }
+    ensures { λ _. ⌜ now (journal .exit) ≡ journalOf n ⌝ }
+{
+    let m = access::marked(n);
+    let text = [m.how, m.right, 0, 0, 0, 0, 0, 0, 0, 0, 0, 0, 0, 0, 0, 0];
+    base::put(&text, journal, 0);
+}
+
 // The answer to a command, with the next state laid over the image where there is a reply.
-fn answer(tag: Tag, state: &mut [u8], command: &[u8], random: &[u8], room: &mut [u8]) -> usize
-    requires { ⌜ length (now state) ≡ 684 ⌝ }
-    ensures { λ r. ⌜ Answers tag (now (state .entry)) (now (command .entry)) (now (random .entry)) (now (room .entry)) r (now (state .exit)) (now (room .exit)) ⌝ }
+fn answer(
+    tag: Tag,
+    state: &mut [u8],
+    command: &[u8],
+    random: &[u8],
+    room: &mut [u8],
+    journal: &mut [u8],
+) -> usize
+    requires { ⌜ (length (now state) ≡ 684) × (length (now journal) ≡ 16) ⌝ }
+    ensures { λ r. ⌜ Answers tag (now (state .entry)) (now (command .entry)) (now (random .entry)) (now (room .entry))
+        r (now (state .exit)) (now (room .exit)) (now (journal .exit)) ⌝ }
 {
     let called = tag::call(tag, command, random, room);
+    let noted = called.noted;
+    note(noted, journal);
     let outcome = called.outcome;
     match outcome {
         Outcome::Replied => {
@@ -24,14 +45,24 @@ fn answer(tag: Tag, state: &mut [u8], command: &[u8], random: &[u8], room: &mut 
     }
 }
 
-// The answer of the tag in an image to a command, with 20 random bytes and a room of 258 bytes or more.
-pub fn play(state: &mut [u8], command: &[u8], random: &[u8], room: &mut [u8]) -> usize
-    ensures { λ r. ⌜ Plays (now (state .entry)) (now (command .entry)) (now (random .entry)) (now (room .entry)) r (now (state .exit)) (now (room .exit)) ⌝ }
+// The answer of the tag in an image to a command, with 20 random bytes, a room of 258 bytes or more and a journal of 16.
+pub fn play(
+    state: &mut [u8],
+    command: &[u8],
+    random: &[u8],
+    room: &mut [u8],
+    journal: &mut [u8],
+) -> usize
+    ensures { λ r. ⌜ Plays (now (state .entry)) (now (command .entry)) (now (random .entry)) (now (room .entry)) (now (journal .entry))
+        r (now (state .exit)) (now (room .exit)) (now (journal .exit)) ⌝ }
 {
     if state.len() != 684 {
         return 1005;
     }
+    if journal.len() != 16 {
+        return 1007;
+    }
     let read = restoring::from_image(state);
     let t = read.tag;
-    answer(t, state, command, random, room)
+    answer(t, state, command, random, room, journal)
 }

@@ -22,7 +22,7 @@ use Rattle.part_two.specs.PartTwo.{enteredFirst, enteredNext, entered}
 use Rattle.selects.specs.Selects.{moved, selectedFile}
 use Rattle.tag.specs.declared.Outcome.{Outcome}
 use Rattle.tag.specs.declared.Outcome.the-variants.{Replied, SmallRoom, WrongRandom, Unsound}
-use Rattle.tag.specs.Way.{answered}
+use Rattle.tag.specs.Way.{answered, noted}
 use Rattle.tag.specs.Call.{outcomeOf, replied, unanswered, byOutcome}
 use Rattle.series.specs.Series.{Asked, step, accepting, passing, replies, accepts, Ended, Same}
 use Rattle.series.proofs.Choices.{not-both, way}
@@ -119,7 +119,7 @@ pub refused-call : (t : Tag) (a : Asked) → replies (outcomeOf t (a .random) (a
 unfolding step unanswered
 refused-call t a = by (outcomeOf t (a .random) (a .room))
   where
-    by : (o : Outcome) → replies o ≡ false → byOutcome t (answered t (a .command) (a .random)) o .tag ≡ t
+    by : (o : Outcome) → replies o ≡ false → byOutcome t (answered t (a .command) (a .random)) (noted t (a .command)) o .tag ≡ t
     by Replied e = absurd (not-both (sym e))
     by SmallRoom e = refl
     by WrongRandom e = refl
@@ -132,7 +132,7 @@ unfolding step replied
 ended-call t a = by (outcomeOf t (a .random) (a .room))
   where
     by : (o : Outcome) → replies o ≡ true → passing (answered t (a .command) (a .random) .status) ≡ false
-        → byOutcome t (answered t (a .command) (a .random)) o .tag ≡ endedOf t
+        → byOutcome t (answered t (a .command) (a .random)) (noted t (a .command)) o .tag ≡ endedOf t
     by Replied e h = otherwise-ended t (a .command) (a .random) h .state
     by SmallRoom e h = absurd (not-both e)
     by WrongRandom e h = absurd (not-both e)
@@ -144,7 +144,7 @@ unfolding step accepts replied unanswered
 changed-call t a = by (outcomeOf t (a .random) (a .room))
   where
     by : (o : Outcome) → and (replies o) (accepting (answered t (a .command) (a .random) .status)) ≡ false
-        → Same t (byOutcome t (answered t (a .command) (a .random)) o .tag)
+        → Same t (byOutcome t (answered t (a .command) (a .random)) (noted t (a .command)) o .tag)
     by Replied e = changed-accepted t (a .command) (a .random) e
     by SmallRoom e = record { files = refl; secrets = refl }
     by WrongRandom e = record { files = refl; secrets = refl }

@@ -13,7 +13,7 @@ use Rattle.settings.specs.Filing.{fileStatus}
 use Rattle.settings.specs.Answers.{verdictOf, judged, statusWord}
 use Rattle.state.specs.State.{startOf, sizeOf as fileSize, fileOf, slotOf, rulesOf, readingIn, noLive, noPending, quieted, endedOf, placed, talking, tapped, filed, sessionOf}
 use Rattle.delivery.specs.Fresh.{container, deliveredFiles, freshTag}
-use Rattle.access.specs.Access.{granted, readGrant, changeGrant, grantFor, fileMode, underKey, modeFor, reads, decided, grantStatus}
+use Rattle.access.specs.Access.{conditionOf, firstOf, allNever, granted, readGrant, changeGrant, grantFor, fileMode, underKey, modeFor, reads, decided, grantStatus}
 use Rattle.soundness.specs.Sound.{rulesSound, keysSound, aloneSound, paddingSound, levelSound, soundTag}
 use Rattle.replies.specs.Answer.{refusal, raised, afterwards, accepted}
 use Rattle.file_parts.specs.Filing.{stored, storedIso}
@@ -59,7 +59,7 @@ soundness = true
 
 -- a command: access, message, answer
 unfoldable pub access : Bool
-unfolding granted readGrant changeGrant grantFor modeNumber fileMode underKey modeFor reads decided grantStatus
+unfolding conditionOf firstOf allNever granted readGrant changeGrant grantFor modeNumber fileMode underKey modeFor reads decided grantStatus
 access = true
 
 unfoldable pub a-message : Bool

@@ -17,7 +17,8 @@ use Rattle.file_parts.specs.Filing.{storedIso, withBytes}
 use Rattle.auth.specs.Parts.{begun}
 use Rattle.part_two.specs.PartTwo.{sessionFrom, enteredFirst, enteredNext, entered}
 use Rattle.selects.specs.Selects.{moved, selectedFile}
-use Rattle.tag.specs.Way.{answered}
+use Rattle.access.specs.declared.Noted.{Noted}
+use Rattle.tag.specs.Way.{answered, noted}
 use Rattle.tag.specs.Call.{outcomeOf, replied, unanswered, byOutcome}
 use Rattle.tag.specs.declared.Outcome.{Outcome}
 use Rattle.tag.specs.declared.Outcome.the-variants.{Replied, SmallRoom, WrongRandom, Unsound}
@@ -116,18 +117,18 @@ fine-kinds t h c random =
 pub fine-answered : (t : Tag) → Fine t → (c random : List ℕ) → Fine (answered t c random .tag)
 fine-answered t h c random = every-answer t c random FineAfter (fine-kinds t h c random)
 
-fine-outcome : (t : Tag) → Fine t → (a : Answer) → Fine (a .tag) → (o : Outcome) → Fine (byOutcome t a o .tag)
+fine-outcome : (t : Tag) → Fine t → (a : Answer) → Fine (a .tag) → (n : Noted) (o : Outcome) → Fine (byOutcome t a n o .tag)
 unfolding replied unanswered
-fine-outcome t h a f Replied = f
-fine-outcome t h a f SmallRoom = h
-fine-outcome t h a f WrongRandom = h
-fine-outcome t h a f Unsound = h
+fine-outcome t h a f n Replied = f
+fine-outcome t h a f n SmallRoom = h
+fine-outcome t h a f n WrongRandom = h
+fine-outcome t h a f n Unsound = h
 
 pub fine-step : (t : Tag) → Fine t → (a : Asked) → Fine (step t a)
 unfolding step
 fine-step t h a =
     fine-outcome t h (answered t (a .command) (a .random))
-    (fine-answered t h (a .command) (a .random)) (outcomeOf t (a .random) (a .room))
+    (fine-answered t h (a .command) (a .random)) (noted t (a .command)) (outcomeOf t (a .random) (a .room))
 
 pub fine-series : (t : Tag) → Fine t → (more : List Asked) → Fine (after t more)
 unfolding after

@@ -255,9 +255,9 @@ module _ (t : Tag) (c random : List ℕ) (P : Answer → Type 0) (kind : Kinds t
 
     grant-kind : (g : Grant) → (allows g ≡ true → P (fromStep7 t k r d x random)) → P (onGrant g t k r d x random)
     unfolding onGrant
-    grant-kind ByKey h = h refl
+    grant-kind (ByKey w) h = h refl
     grant-kind ByTap h = h refl
-    grant-kind Free h = h refl
+    grant-kind (Free w) h = h refl
     grant-kind Unasked h = h refl
     grant-kind Never h = kind .refuses (grantStatus (k .class) Never)
     grant-kind Denied h = kind .refuses (grantStatus (k .class) Denied)

@@ -15,7 +15,7 @@ use Rattle.access.specs.declared.Grant.the-variants.{ByKey, ByTap, Free, Unaske
 use Rattle.replies.specs.Answer.{Answer}
 use Rattle.tag.specs.declared.Outcome.{Outcome}
 use Rattle.tag.specs.declared.Outcome.the-variants.{Replied, SmallRoom, WrongRandom, Unsound}
-use Rattle.tag.specs.Way.{answered}
+use Rattle.tag.specs.Way.{answered, noted}
 use Rattle.tag.specs.Call.{outcomeOf, byOutcome}
 
 -- what a caller brings: a command, random bytes and a room, any of them
@@ -26,7 +26,7 @@ pub record Asked : Type 0 where
 
 -- the state that a call leaves
 unfoldable pub step : Tag → Asked → Tag
-step t a = byOutcome t (answered t (a .command) (a .random)) (outcomeOf t (a .random) (a .room)) .tag
+step t a = byOutcome t (answered t (a .command) (a .random)) (noted t (a .command)) (outcomeOf t (a .random) (a .room)) .tag
 
 unfoldable pub after : Tag → List Asked → Tag
 after t [] = t
@@ -50,9 +50,9 @@ replies Unsound = false
 
 -- the grants that let a command on
 abbrev pub allows : Grant → Bool
-allows ByKey = true
+allows (ByKey r) = true
 allows ByTap = true
-allows Free = true
+allows (Free r) = true
 allows Unasked = true
 allows Never = false
 allows Denied = false

@@ -22,17 +22,19 @@ pub extern "C" fn mainspur_fresh(uid: &[u8], state: &mut [u8]) -> usize
     making::make(uid, state)
 }
 
-// The answer of the tag in an image to a command, with 20 random bytes and a room of 258 bytes or more.
+// The answer of the tag in an image to a command, with 20 random bytes, a room of 258 bytes or more and a journal of 16.
 #[no_mangle]
 pub extern "C" fn mainspur_call(
     state: &mut [u8],
     command: &[u8],
     random: &[u8],
     room: &mut [u8],
+    journal: &mut [u8],
 ) -> usize
-    ensures { λ r. ⌜ Plays (now (state .entry)) (now (command .entry)) (now (random .entry)) (now (room .entry)) r (now (state .exit)) (now (room .exit)) ⌝ }
+    ensures { λ r. ⌜ Plays (now (state .entry)) (now (command .entry)) (now (random .entry)) (now (room .entry)) (now (journal .entry))
+        r (now (state .exit)) (now (room .exit)) (now (journal .exit)) ⌝ }
 {
-    playing::play(state, command, random, room)
+    playing::play(state, command, random, room, journal)
 }
 
 // Whether a settings string is good for a file, or the status of the file byte or the string.

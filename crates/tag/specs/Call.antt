@@ -8,8 +8,10 @@ use Rattle.base.specs.Decide.{pick}
 use Rattle.base.specs.Bytes.{over}
 use Rattle.state.specs.declared.Tag.{Tag}
 use Rattle.soundness.specs.Sound.{soundTag}
+use Rattle.access.specs.declared.Noted.{Noted}
+use Rattle.access.specs.declared.Noted.the-variants.{Unreached}
 use Rattle.replies.specs.Answer.{Answer}
-use Rattle.tag.specs.Way.{answered}
+use Rattle.tag.specs.Way.{answered, noted}
 use Rattle.tag.specs.declared.Outcome.{Outcome}
 use Rattle.tag.specs.declared.Outcome.the-variants.{Replied, SmallRoom, WrongRandom, Unsound}
 use Rattle.tag.specs.declared.Called.{Called}
@@ -37,19 +39,19 @@ refusalNumber Unsound = 3
 unfoldable pub refusalOf : Tag → List ℕ → List ℕ → ℕ
 refusalOf t random room = pick (ltb (length room) 258) 1 (pick (eqb (length random) 20) (pick (soundTag t) 0 3) 2)
 
--- refused: length 0 and the state as it was
+-- refused: length 0 and the state as it was; the command never got to the access decision
 unfoldable pub unanswered : Outcome → Tag → Called
-unanswered o t = record { outcome = o; length = 0; tag = t }
+unanswered o t = record { outcome = o; length = 0; tag = t; noted = Unreached }
 
--- a reply: its length and the next state
-unfoldable pub replied : Answer → Called
-replied a = record { outcome = Replied; length = length (replyOf a); tag = a .tag }
+-- a reply: its length, the next state, and what the journal notes
+unfoldable pub replied : Answer → Noted → Called
+replied a n = record { outcome = Replied; length = length (replyOf a); tag = a .tag; noted = n }
 
-abbrev pub byOutcome : Tag → Answer → Outcome → Called
-byOutcome t a Replied = replied a
-byOutcome t a SmallRoom = unanswered SmallRoom t
-byOutcome t a WrongRandom = unanswered WrongRandom t
-byOutcome t a Unsound = unanswered Unsound t
+abbrev pub byOutcome : Tag → Answer → Noted → Outcome → Called
+byOutcome t a n Replied = replied a n
+byOutcome t a n SmallRoom = unanswered SmallRoom t
+byOutcome t a n WrongRandom = unanswered WrongRandom t
+byOutcome t a n Unsound = unanswered Unsound t
 
 -- the reply at the front of the room and the rest untouched; on a refusal the room as it was
 abbrev pub roomBy : Answer → List ℕ → Outcome → List ℕ
@@ -58,10 +60,17 @@ roomBy a room SmallRoom = room
 roomBy a room WrongRandom = room
 roomBy a room Unsound = room
 
+-- what the journal notes; on a refusal that the command never got to the access decision
+abbrev pub notedBy : Noted → Outcome → Noted
+notedBy n Replied = n
+notedBy n SmallRoom = Unreached
+notedBy n WrongRandom = Unreached
+notedBy n Unsound = Unreached
+
 -- a reply fits into the 258 bytes that a room must have
 pub record Calls (t : Tag) (c random old : List ℕ) (r : Called) (new : List ℕ) : Type 0 where
   pub number : refusalNumber (r .outcome) ≡ refusalOf t random old
-  pub told : r ≡ byOutcome t (answered t c random) (outcomeOf t random old)
+  pub told : r ≡ byOutcome t (answered t c random) (noted t c) (outcomeOf t random old)
   pub left : new ≡ roomBy (answered t c random) old (outcomeOf t random old)
   pub short : r .length ≤ 258
 
@@ -71,8 +80,8 @@ pub record Laid (text old : List ℕ) (n : ℕ) (new : List ℕ) : Type 0 where
   pub room : new ≡ over text old
   pub short : n ≤ 258
 
--- an answer as a reply
-pub record Replies (a : Answer) (old : List ℕ) (r : Called) (new : List ℕ) : Type 0 where
-  pub told : r ≡ replied a
+-- an answer as a reply, and what the journal notes
+pub record Replies (a : Answer) (n : Noted) (old : List ℕ) (r : Called) (new : List ℕ) : Type 0 where
+  pub told : r ≡ replied a n
   pub left : new ≡ over (replyOf a) old
   pub short : r .length ≤ 258

@@ -1,4 +1,4 @@
--- 01, "Order of checks": the way of a command, from its bytes to its answer.
+-- 01, "Order of checks": the way of a command, from its bytes to its answer; and what a journal notes of it (02, request 5).
 use mathlib.Core.Bool.{Bool}
 use mathlib.Core.List.{List}
 use Prim.Native.Nat.{ℕ}
@@ -17,6 +17,8 @@ use Rattle.order.specs.Commands.{ordered, dataOf}
 use Rattle.access.specs.declared.Grant.{Grant}
 use Rattle.access.specs.declared.Grant.the-variants.{ByKey, ByTap, Free, Unasked, Never, Denied}
 use Rattle.access.specs.declared.Decision.{Decision}
+use Rattle.access.specs.declared.Noted.{Noted}
+use Rattle.access.specs.declared.Noted.the-variants.{Unreached, Decided}
 use Rattle.access.specs.Access.{decided, grantStatus}
 use Rattle.state.specs.declared.Tag.{Tag}
 use Rattle.state.specs.State.{readingIn}
@@ -39,9 +41,9 @@ fromStep7 t k r d x random =
 
 -- step 6: access 919D, else 91AE; of CLA 00 6982
 unfoldable pub onGrant : Grant → Tag → Command → Reading → Decision → List ℕ → List ℕ → Answer
-onGrant ByKey t k r d x random = fromStep7 t k r d x random
+onGrant (ByKey w) t k r d x random = fromStep7 t k r d x random
 onGrant ByTap t k r d x random = fromStep7 t k r d x random
-onGrant Free t k r d x random = fromStep7 t k r d x random
+onGrant (Free w) t k r d x random = fromStep7 t k r d x random
 onGrant Unasked t k r d x random = fromStep7 t k r d x random
 onGrant Never t k r d x random = refusal t (grantStatus (k .class) Never)
 onGrant Denied t k r d x random = refusal t (grantStatus (k .class) Denied)
@@ -76,3 +78,13 @@ onOrder t c random (Refused s) = refusal t s
 -- what a tag answers to a command
 unfoldable pub answered : Tag → List ℕ → List ℕ → Answer
 answered t c random = onOrder t c random (ordered c (t .pending .on) (t .place .application) (t .place .file))
+
+-- ---- the journal
+-- refused by steps 1 to 5, it never got to the decision; behind them it notes what the decision answers, whatever refuses later. 71, 77, AF and
+-- selects, without an access step, are under none of the rights
+abbrev pub notedOn : Tag → Ordered → Noted
+notedOn t (Is k) = Decided (decided (k .name) (t .live) (readingIn (t .files) (k .file) .settings .head) .grant)
+notedOn t (Refused s) = Unreached
+
+unfoldable pub noted : Tag → List ℕ → Noted
+noted t c = notedOn t (ordered c (t .pending .on) (t .place .application) (t .place .file))

@@ -4,11 +4,12 @@ ghost use mathlib.Core.Path.{_≡_};
 ghost use Prim.Native.Nat.{_≤_};
 ghost use lib.ListN.{length, take};
 ghost use Rattle.soundness.specs.Sound.{soundTag, judgedTag};
-ghost use Rattle.tag.specs.Way.{answered};
+ghost use Rattle.tag.specs.Way.{answered, noted};
 ghost use Rattle.tag.specs.Call.{withStatus, unanswered, Laid, Replies, Calls};
 use crate::Called;
 use crate::Outcome;
 use crate::answering::answered;
+use access::Noted;
 use soundness::Judged;
 use state::Tag;
 
@@ -19,6 +20,7 @@ fn unanswered(outcome: Outcome, tag: Tag) -> Called
         outcome,
         length: 0,
         tag,
+        noted: Noted::Unreached,
     }
 }
 
@@ -38,18 +40,21 @@ fn reply(tag: Tag, j: Judged, command: &[u8], random: &[u8], room: &mut [u8]) ->
     requires { ⌜ j ≡ judgedTag tag ⌝ }
     requires { ⌜ soundTag tag ≡ true ⌝ }
     requires { ⌜ (length (now random) ≡ 20) × (258 ≤ length (now room)) ⌝ }
-    ensures { λ r. ⌜ Replies (answered tag (now (command .entry)) (now (random .entry))) (now (room .entry)) r (now (room .exit)) ⌝ }
+    ensures { λ r. ⌜ Replies (answered tag (now (command .entry)) (now (random .entry))) (noted tag (now (command .entry))) (now (room .entry)) r (now (room .exit)) ⌝ }
 {
     let mut r = [0u8; 20];
     base::put(random, &mut r, 0);
-    let d = answered(tag, j, command, r);
+    let a = answered(tag, j, command, r);
+    let d = a.done;
     let bytes = d.bytes;
     let n = lay(bytes, d.length, d.status, room);
     let t = d.tag;
+    let noted = a.noted;
     Called {
         outcome: Outcome::Replied,
         length: n,
         tag: t,
+        noted,
     }
 }
 

@@ -2,6 +2,7 @@
 mod answering;
 mod entry;
 
+use access::Noted;
 pub use delivery::Birth;
 pub use delivery::Made;
 pub use delivery::fresh;
@@ -16,9 +17,10 @@ pub enum Outcome {
     Unsound,
 }
 
-// The outcome, the reply's length and the next state.
+// The outcome, the reply's length, the next state, and what a journal notes of the call.
 pub struct Called {
     pub outcome: Outcome,
     pub length: usize,
     pub tag: Tag,
+    pub noted: Noted,
 }

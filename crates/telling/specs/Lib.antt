@@ -1,4 +1,5 @@
 pub mod Plain
 pub mod Names
 pub mod Exchanges
+pub mod Decision
 pub mod Turns

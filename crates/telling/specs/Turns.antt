@@ -9,7 +9,9 @@ use Rattle.plans.specs.declared.Meaning.{Meaning}
 use Rattle.plans.specs.declared.Meaning.the-variants.{Blank, Drawn, Given, Bad}
 use Rattle.plans.specs.Numbers.{reasonNumber}
 use Rattle.forms.specs.Forms.{formOf}
+use Rattle.telling.specs.declared.Journal.{Journal}
 use Rattle.telling.specs.Exchanges.{exchangeOf, unlikeOf}
+use Rattle.telling.specs.Decision.{accessText}
 
 -- "line #: {no command before '/' or '='}{a character that is no hexadecimal digit}{an odd number of digits}{more than 512 bytes}
 -- {behind '/' there must be 20 bytes, 40 digits}{behind '=' there must be 1 to 258 bytes, two digits each, and it comes last}
@@ -35,14 +37,14 @@ unfoldable pub skippedText : ℕ → ℕ → List ℕ
 skippedText number why =
     formOf true skippedForm (number ∷ []) (eqb why 1 ∷ eqb why 2 ∷ eqb why 3 ∷ eqb why 4 ∷ eqb why 5 ∷ eqb why 6 ∷ eqb why 7 ∷ [])
 
--- an exchange, and what was expected where the reply was not that
-unfoldable pub playedText : ℕ → List ℕ → List ℕ → List ℕ → Bool → List ℕ
-playedText number command reply expected unmet = exchangeOf number command reply ++ pick unmet (unlikeOf expected) []
+-- an exchange, how its command was granted, and what was expected where the reply was not that
+unfoldable pub playedText : ℕ → List ℕ → List ℕ → Journal → List ℕ → Bool → List ℕ
+playedText number command reply j expected unmet = exchangeOf number command reply ++ accessText j ++ pick unmet (unlikeOf expected) []
 
 -- a line with this number: its command is the first n bytes of c
-unfoldable pub lineText : ℕ → Meaning → List ℕ → List ℕ → List ℕ → Bool → Bool → List ℕ
-lineText number Blank c reply expected undrawn unmet = []
-lineText number (Bad r) c reply expected undrawn unmet = skippedText number (reasonNumber r)
-lineText number (Drawn n) c reply expected undrawn unmet =
-    pick undrawn (skippedText number 7) (playedText number (take n c) reply expected unmet)
-lineText number (Given n) c reply expected undrawn unmet = playedText number (take n c) reply expected unmet
+unfoldable pub lineText : ℕ → Meaning → List ℕ → List ℕ → Journal → List ℕ → Bool → Bool → List ℕ
+lineText number Blank c reply j expected undrawn unmet = []
+lineText number (Bad r) c reply j expected undrawn unmet = skippedText number (reasonNumber r)
+lineText number (Drawn n) c reply j expected undrawn unmet =
+    pick undrawn (skippedText number 7) (playedText number (take n c) reply j expected unmet)
+lineText number (Given n) c reply j expected undrawn unmet = playedText number (take n c) reply j expected unmet

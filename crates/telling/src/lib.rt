@@ -1,7 +1,15 @@
 // What a rehearsal prints of a line of its plan, as text at the front of a lent room.
+mod decision;
 mod exchanges;
 mod names;
 mod plain;
 mod turn;
 
 pub use turn::line_text;
+
+// How a command was granted and under which right, by the numbers of a journal, and the key of the session that it came in.
+pub struct Journal {
+    pub how: u8,
+    pub right: u8,
+    pub key: u8,
+}

@@ -4,6 +4,8 @@ ghost use lib.ListN.{take};
 ghost use Rattle.forms.specs.Rooms.{Lays};
 ghost use Rattle.plans.specs.Numbers.{reasonNumber};
 ghost use Rattle.telling.specs.Turns.{skippedText, playedText, lineText};
+use crate::Journal;
+use crate::decision::access_line;
 use crate::exchanges::exchange;
 use crate::exchanges::unlike;
 use forms::append_form;
@@ -47,22 +49,24 @@ fn skipped(number: u64, why: u8, room: &mut [u8]) -> usize
     )
 }
 
-// A command, its reply and, where the reply is not as expected, what was.
+// A command, its reply, how it was granted and, where the reply is not as expected, what was.
 fn played(
     number: u64,
     command: &[u8],
     reply: &[u8],
+    j: Journal,
     expected: &[u8],
     unmet: bool,
     room: &mut [u8],
 ) -> usize
-    ensures { λ r. ⌜ Lays (playedText number (now (command .entry)) (now (reply .entry)) (now (expected .entry)) unmet) 0 (now (room .entry)) r (now (room .exit)) ⌝ }
+    ensures { λ r. ⌜ Lays (playedText number (now (command .entry)) (now (reply .entry)) j (now (expected .entry)) unmet) 0 (now (room .entry)) r (now (room .exit)) ⌝ }
 {
     let a = exchange(number, command, reply, room);
+    let b = access_line(j, room, a);
     if unmet {
-        return unlike(expected, room, a);
+        return unlike(expected, room, b);
     }
-    a
+    b
 }
 
 // The same of the first n bytes of a command.
@@ -71,16 +75,17 @@ fn front(
     n: usize,
     c: &[u8],
     reply: &[u8],
+    j: Journal,
     e: &[u8],
     unmet: bool,
     room: &mut [u8],
 ) -> usize
-    ensures { λ r. ⌜ Lays (playedText number (take n (now (c .entry))) (now (reply .entry)) (now (e .entry)) unmet) 0 (now (room .entry)) r (now (room .exit)) ⌝ }
+    ensures { λ r. ⌜ Lays (playedText number (take n (now (c .entry))) (now (reply .entry)) j (now (e .entry)) unmet) 0 (now (room .entry)) r (now (room .exit)) ⌝ }
 {
     if n < c.len() {
-        return played(number, &c[..n], reply, e, unmet, room);
+        return played(number, &c[..n], reply, j, e, unmet, room);
     }
-    played(number, c, reply, e, unmet, room)
+    played(number, c, reply, j, e, unmet, room)
 }
 
 // What a line with this number did: its command is the first bytes of c.
@@ -89,12 +94,13 @@ pub fn line_text(
     m: Meaning,
     c: &[u8],
     reply: &[u8],
+    j: Journal,
     e: &[u8],
     undrawn: bool,
     unmet: bool,
     room: &mut [u8],
 ) -> usize
-    ensures { λ r. ⌜ Lays (lineText number m (now (c .entry)) (now (reply .entry)) (now (e .entry)) undrawn unmet) 0 (now (room .entry)) r (now (room .exit)) ⌝ }
+    ensures { λ r. ⌜ Lays (lineText number m (now (c .entry)) (now (reply .entry)) j (now (e .entry)) undrawn unmet) 0 (now (room .entry)) r (now (room .exit)) ⌝ }
 {
     match m {
         Meaning::Blank => 0,
@@ -103,8 +109,8 @@ pub fn line_text(
             if undrawn {
                 return skipped(number, 7, room);
             }
-            front(number, n, c, reply, e, unmet, room)
+            front(number, n, c, reply, j, e, unmet, room)
         }
-        Meaning::Given(n) => front(number, n, c, reply, e, unmet, room),
+        Meaning::Given(n) => front(number, n, c, reply, j, e, unmet, room),
     }
 }

@@ -11,7 +11,8 @@ use Rattle.state.specs.declared.Tag.{Tag}
 use Rattle.first_lines.specs.Said.{said}
 use Rattle.plans.specs.declared.Meaning.{Meaning}
 use Rattle.plans.specs.declared.Meaning.the-variants.{Blank, Drawn, Given, Bad}
-use Rattle.tag.specs.Way.{answered}
+use Rattle.tag.specs.Way.{answered, noted}
+use Rattle.telling.specs.declared.Journal.{Journal}
 use Rattle.tag.specs.Call.{outcomeOf, byOutcome, roomBy}
 use Rattle.tag.specs.declared.Called.{Called}
 use Rattle.verdict.specs.Replies.{statusIn, refusing, differing}
@@ -19,7 +20,7 @@ use Rattle.tallies.specs.declared.Went.{Went}
 use Rattle.turns.specs.declared.Turn.{Turn}
 use Rattle.turns.specs.declared.Acted.{Acted}
 use Rattle.turns.specs.Steps.{nextOf, replyTo, wentBy, toldBy, played, stays, Drew, Draws, Carried}
-use Rattle.turns.specs.Acts.{actedOf, playedAs, silent, drawnBy, actedBy}
+use Rattle.turns.specs.Acts.{journalWith, actedOf, playedAs, silent, drawnBy, actedBy}
 
 -- what is said of a command, by what was computed for it
 pub went-is : (reply expected : List ℕ) (s : ℕ) (f u : Bool) → s ≡ statusIn reply → f ≡ refusing s → u ≡ differing expected reply
@@ -45,18 +46,19 @@ went-is reply expected s f u p q r =
     }
 
 -- a turn by what the call answered and left in the room
-pub acted-is : (d : Called) (room expected : List ℕ) (w : Went) → w ≡ wentBy (take (d .length) room) expected
-    → _≡_ {A = Acted} (record { turn = record { tag = d .tag; went = w }; length = d .length; room = room }) (actedOf d room expected)
+pub acted-is : (d : Called) (key : ℕ) (room expected : List ℕ) (w : Went) (j : Journal) → w ≡ wentBy (take (d .length) room) expected
+    → j ≡ journalWith (d .noted) key
+    → _≡_ {A = Acted} (record { turn = record { tag = d .tag; went = w }; length = d .length; room = room; journal = j }) (actedOf d key room expected)
 unfolding actedOf toldBy
-acted-is d room expected w p =
-    λ i. record { turn = record { tag = d .tag; went = p i }; length = d .length; room = room }
+acted-is d key room expected w j p q =
+    λ i. record { turn = record { tag = d .tag; went = p i }; length = d .length; room = room; journal = q i }
 
 pub played-is : (t : Tag) (c random expected : List ℕ) (d : Called) (room : List ℕ)
-    → d ≡ byOutcome t (answered t c random) (outcomeOf t random (replicate 258 0))
+    → d ≡ byOutcome t (answered t c random) (noted t c) (outcomeOf t random (replicate 258 0))
     → room ≡ roomBy (answered t c random) (replicate 258 0) (outcomeOf t random (replicate 258 0))
-    → actedOf d room expected ≡ playedAs t c random expected
+    → actedOf d (t .live .key) room expected ≡ playedAs t c random expected
 unfolding playedAs
-played-is t c random expected d room p q = ap₂ (λ (e : Called) (x : List ℕ). actedOf e x expected) p q
+played-is t c random expected d room p q = ap₂ (λ (e : Called) (x : List ℕ). actedOf e (t .live .key) x expected) p q
 
 -- ---- the machine gave random bytes, and it gave none
 played-drew : (t : Tag) (c random expected : List ℕ) (r : Turn) → r ≡ played t c random expected → r .went .undrawn ≡ false

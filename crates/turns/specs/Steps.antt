@@ -7,7 +7,7 @@ use lib.Dec.{ltb}
 use lib.ListN.{length, take, replicate}
 use Rattle.base.specs.Decide.{pick}
 use Rattle.state.specs.declared.Tag.{Tag}
-use Rattle.tag.specs.Way.{answered}
+use Rattle.tag.specs.Way.{answered, noted}
 use Rattle.tag.specs.Call.{outcomeOf, byOutcome, roomBy}
 use Rattle.first_lines.specs.Said.{said}
 use Rattle.plans.specs.Plan.{lineOf, lineCommand, lineRandom, lineExpected}
@@ -20,12 +20,12 @@ use Rattle.turns.specs.declared.Turn.{Turn}
 
 -- the tag behind a command
 unfoldable pub nextOf : Tag → List ℕ → List ℕ → Tag
-nextOf t c random = byOutcome t (answered t c random) (outcomeOf t random (replicate 258 0)) .tag
+nextOf t c random = byOutcome t (answered t c random) (noted t c) (outcomeOf t random (replicate 258 0)) .tag
 
 -- the reply to it: as many first bytes of the room as the call says
 unfoldable pub replyTo : Tag → List ℕ → List ℕ → List ℕ
 replyTo t c random =
-    take (byOutcome t (answered t c random) (outcomeOf t random (replicate 258 0)) .length)
+    take (byOutcome t (answered t c random) (noted t c) (outcomeOf t random (replicate 258 0)) .length)
     (roomBy (answered t c random) (replicate 258 0) (outcomeOf t random (replicate 258 0)))
 
 -- a command was played: its reply, and what was expected, which is nothing where it has no bytes

@@ -3,12 +3,14 @@ ghost use mathlib.Core.Path.{_≡_};
 ghost use Prim.Native.Nat.{_≤_};
 ghost use lib.ListN.{take};
 ghost use Rattle.turns.specs.Steps.{wentBy, stays};
-ghost use Rattle.turns.specs.Acts.{playedAs, silent, drawnBy, actedBy};
+ghost use Rattle.turns.specs.Acts.{journalWith, playedAs, silent, drawnBy, actedBy};
 ghost use Rattle.turns.specs.Lines.{toldOf, lineActed, lineTold};
 ghost use Rattle.forms.specs.Rooms.{Lays};
+use access::Noted;
 use plans::Meaning;
 use state::Tag;
 use tallies::Went;
+use telling::Journal;
 
 // The tag behind a line.
 pub struct Turn {
@@ -16,11 +18,12 @@ pub struct Turn {
     pub went: Went,
 }
 
-// A turn, and the reply: as many first bytes of the room.
+// A turn, the reply: as many first bytes of the room, and what is noted of it.
 pub struct Acted {
     pub turn: Turn,
     pub length: usize,
     pub room: [u8; 258],
+    pub journal: Journal,
 }
 
 // The turn, and how much of the room its text takes.
@@ -46,6 +49,18 @@ fn told(reply: &[u8], expected: &[u8]) -> Went
     }
 }
 
+// What a call notes, and the key of its session.
+fn noted(n: Noted, key: u8) -> Journal
+    ensures { λ r. ⌜ r ≡ journalWith n key ⌝ }
+{
+    let m = access::marked(n);
+    Journal {
+        how: m.how,
+        right: m.right,
+        key,
+    }
+}
+
 // A command is played.
 fn play(tag: Tag, command: &[u8], random: &[u8], expected: &[u8]) -> Acted
     ensures told { λ r. ⌜ r ≡ playedAs tag (now (command .entry)) (now (random .entry)) (now (expected .entry)) ⌝ }
@@ -57,7 +72,14 @@ fn play(tag: Tag, command: &[u8], random: &[u8], expected: &[u8]) -> Acted
     let length = d.length;
     let went = told(&room[..length], expected);
     let turn = Turn { tag: t, went };
-    Acted { turn, length, room }
+    let n = d.noted;
+    let journal = noted(n, tag.live.key);
+    Acted {
+        turn,
+        length,
+        room,
+        journal,
+    }
 }
 
 // Plays the first n bytes of a command.
@@ -86,10 +108,16 @@ fn still(tag: Tag, skipped: bool, undrawn: bool) -> Acted
     };
     let turn = Turn { tag, went };
     let room = [0u8; 258];
+    let journal = Journal {
+        how: 0,
+        right: 0,
+        key: 0,
+    };
     Acted {
         turn,
         length: 0,
         room,
+        journal,
     }
 }
 
@@ -138,8 +166,19 @@ fn turned(
     let turn = a.turn;
     let n = a.length;
     let reply = a.room;
+    let j = a.journal;
     let went = turn.went;
-    let length = telling::line_text(number, m, c, &reply[..n], e, went.undrawn, went.unmet, room);
+    let length = telling::line_text(
+        number,
+        m,
+        c,
+        &reply[..n],
+        j,
+        e,
+        went.undrawn,
+        went.unmet,
+        room,
+    );
     Taken { turn, length }
 }
 

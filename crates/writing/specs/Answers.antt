@@ -29,17 +29,17 @@ writtenAs n r room = byFault n NoFile (recordAs (meets n r) r room)
 unfoldable pub writtenRoom : ℕ → Settings → List ℕ → List ℕ
 writtenRoom n r room = byFault n (λ f. room) (recordRoom (meets n r) r room)
 
--- its number: the length of the string, the status of a bad file, or the house's 1007 for a bad record, 1006 for a room too small
+-- its number: the length of the string, the status of a bad file, or the house's 1008 for a bad record, 1006 for a room too small
 unfoldable pub writtenNumber : Written → ℕ
 writtenNumber (Laid n) = n
 writtenNumber (NoFile f) = fileFaultWord f
-writtenNumber BadRecord = 1007
+writtenNumber BadRecord = 1008
 writtenNumber NoRoom = 1006
 
 -- the same number, case by case
 unfoldable pub recordNumber : Bool → Settings → List ℕ → ℕ
 recordNumber true r room = pick (leb (length (stringOf r)) (length room)) (length (stringOf r)) 1006
-recordNumber false r room = 1007
+recordNumber false r room = 1008
 
 unfoldable pub writingNumber : ℕ → Settings → List ℕ → ℕ
 writingNumber n r room = byFault n fileFaultWord (recordNumber (meets n r) r room)

@@ -17,21 +17,22 @@ enum Named {
 
 impl Tag {
     /// A pending part two lets no CLA 00 command through.
-    pub(super) fn iso(&mut self, ins: Iso, fields: &IsoFields, call: &Call) -> Answer<Reply> {
+    pub(super) fn iso(&mut self, ins: Iso, fields: &IsoFields, call: &mut Call) -> Answer<Reply> {
         if self.end_pending().is_some() {
             return Err(Status::IsoConditions);
         }
         let data = match ins {
-            Iso::SelectFile => self.select(fields)?,
+            Iso::SelectFile => self.select(fields, call)?,
             Iso::ReadBinary => self.read_binary(fields, call)?,
-            Iso::UpdateBinary => self.update_binary(fields)?,
+            Iso::UpdateBinary => self.update_binary(fields, call)?,
         };
         Ok(Reply::iso(data))
     }
 
     /// Selecting PICC or application ends session and file selection; a file needs the
     /// application and keeps the session.
-    fn select(&mut self, fields: &IsoFields) -> Answer<Vec<u8>> {
+    fn select(&mut self, fields: &IsoFields, call: &mut Call) -> Answer<Vec<u8>> {
+        call.without_access();
         let named = named(fields)?;
         match (&mut self.place, named) {
             (place, Named::Picc) => *place = Place::Picc,
@@ -48,14 +49,14 @@ impl Tag {
     }
 
     /// Le 00 gives all; Le over what is there: 6C and that number.
-    fn read_binary(&mut self, fields: &IsoFields, call: &Call) -> Answer<Vec<u8>> {
+    fn read_binary(&mut self, fields: &IsoFields, call: &mut Call) -> Answer<Vec<u8>> {
         let offset = offset(fields)?;
         let le = match (fields.le, fields.data) {
             (Some(le), []) => usize::from(le),
             _ => return Err(Status::IsoWrongLength),
         };
         let file = self.selected().ok_or(Status::IsoConditions)?;
-        self.plain_access(self.grant_read(file))?;
+        self.require_plain(call.decided(self.access_read(file)))?;
         let there = remaining(file, offset)?;
         if le > there {
             // Le is one byte, so what is there fits one too.
@@ -70,13 +71,13 @@ impl Tag {
         Ok(data)
     }
 
-    fn update_binary(&mut self, fields: &IsoFields) -> Answer<Vec<u8>> {
+    fn update_binary(&mut self, fields: &IsoFields, call: &mut Call) -> Answer<Vec<u8>> {
         let offset = offset(fields)?;
         if fields.data.is_empty() || fields.le.is_some() {
             return Err(Status::IsoWrongLength);
         }
         let file = self.selected().ok_or(Status::IsoConditions)?;
-        self.plain_access(self.grant_write(file))?;
+        self.require_plain(call.decided(self.access_write(file)))?;
         if fields.data.len() > remaining(file, offset)? {
             return Err(Status::IsoWrongLc);
         }
@@ -86,9 +87,9 @@ impl Tag {
     }
 
     /// Access 6982, also with CmdCtr full or a mode other than Plain.
-    fn plain_access(&self, granted: Answer<Mode>) -> Answer<()> {
+    fn require_plain(&self, decided: Answer<Mode>) -> Answer<()> {
         let ctr = self.session().map(|session| session.ctr);
-        if granted == Ok(Mode::Plain) && ctr != Some(LAST_CMD_CTR) {
+        if decided == Ok(Mode::Plain) && ctr != Some(LAST_CMD_CTR) {
             Ok(())
         } else {
             Err(Status::IsoSecurity)

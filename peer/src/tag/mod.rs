@@ -9,6 +9,7 @@ mod tests;
 mod wrapped;
 
 use crate::command::{Command, Native};
+use crate::grant::Grant;
 use crate::messaging::{Pending, Session};
 use crate::settings::{FileNo, Mode, Settings};
 use crate::status::{Answer, Reply};
@@ -90,6 +91,8 @@ struct Call<'a> {
     random: &'a Random,
     /// The tap of the last command, if that was such a read.
     tap: Option<Tap>,
+    /// What the access step said so far; what refuses later leaves it.
+    grant: Grant,
 }
 
 impl Tag {
@@ -127,17 +130,24 @@ impl Tag {
 
     /// One call: data and two status bytes.
     pub fn exchange(&mut self, command: &[u8], random: &Random) -> Vec<u8> {
-        let tap = self.end_tap();
-        let reply = self
-            .answer(command, &Call { random, tap })
-            .unwrap_or_else(|status| {
-                self.set_phase(Phase::Idle);
-                Reply::refusal(status)
-            });
-        reply.into_bytes()
+        self.explained(command, random).0
     }
 
-    fn answer(&mut self, command: &[u8], call: &Call) -> Answer<Reply> {
+    /// One call: data and two status bytes, and why it was granted.
+    pub fn explained(&mut self, command: &[u8], random: &Random) -> (Vec<u8>, Grant) {
+        let mut call = Call {
+            random,
+            tap: self.end_tap(),
+            grant: Grant::NotAsked,
+        };
+        let reply = self.answer(command, &mut call).unwrap_or_else(|status| {
+            self.set_phase(Phase::Idle);
+            Reply::refusal(status)
+        });
+        (reply.into_bytes(), call.grant)
+    }
+
+    fn answer(&mut self, command: &[u8], call: &mut Call) -> Answer<Reply> {
         match Command::parse(command)? {
             Command::Wrapped(ins, data) => self.wrapped(ins, data, call),
             Command::Plain(ins, fields) => self.iso(ins, &fields, call),
@@ -249,6 +259,7 @@ impl Tag {
 
     /// The mode in which a command would be granted now.
     pub fn mode_of(&self, ins: Native, header: &[u8]) -> Option<Mode> {
-        self.job(ins, header).and_then(|job| self.grant(job)).ok()
+        let access = self.job(ins, header).and_then(|job| self.access(job));
+        access.ok().map(|access| access.mode)
     }
 }

@@ -81,19 +81,27 @@ fn the_last_command_of_a_session() {
 
 #[test]
 fn a_full_cmd_ctr() {
-    for (command, reply) in [
-        ("00B0000001", "6982"),
-        ("00B0010001", "6982"),
-        ("00D6000001AA", "6982"),
-        ("90F50000010200", "91AE"),
-        ("90F50000010400", "91F0"),
-        ("90C400000100", "917E"),
-        ("90C40000010000", "91AE"),
-        ("90AD0000070200000000000000", "91AE"),
-        ("90F60000010200", "919D"),
-        ("00A4000C02E103", "9000"),
+    for (key, command, reply, grant) in [
+        (1, "00B0000001", "6982", "E Read"),
+        (1, "00B0010001", "6982", "E Read"),
+        (1, "00D6000001AA", "6982", "E Write"),
+        (1, "90F50000010200", "91AE", "none"),
+        (1, "9051000000", "91AE", "none"),
+        (1, "90F50000010400", "91F0", "-"),
+        (1, "90C400000100", "917E", "-"),
+        (1, "90C40000010000", "91AE", "refused"),
+        (0, "90C40000010000", "91AE", "none"),
+        (0, "905F0000010200", "91AE", "key Change"),
+        (1, "90AD0000070200000000000000", "91AE", "E Read"),
+        (2, "90AD0000070300000000000000", "91AE", "key Read"),
+        (3, "90AD0000070300000000000000", "91AE", "key ReadWrite"),
+        (3, "908D0000070300000000000000", "91AE", "key Write"),
+        (1, "90F60000010200", "919D", "refused"),
+        (1, "00A4000C02E103", "9000", "none"),
     ] {
-        assert_eq!(send(&mut in_session(1, LAST_CMD_CTR), command), reply);
+        let mut tag = in_session(key, LAST_CMD_CTR);
+        let (ours, why) = tag.explained(&bytes(command), &[0; 20]);
+        assert_eq!((hex(&ours), why.to_string()), (reply.into(), grant.into()));
     }
     let mut tag = in_session(1, LAST_CMD_CTR);
     assert!(send(&mut tag, "90770000010400").ends_with("91AF"));

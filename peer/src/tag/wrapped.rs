@@ -1,5 +1,6 @@
 //! The wrapped commands after their form: target, access, secure messaging, own values.
 
+use super::access::Access;
 use super::authenticate::key_number;
 use super::mirror::TapRefusal;
 use super::{Call, Phase, ReadKind, Tag, LAST_CMD_CTR};
@@ -25,22 +26,22 @@ pub(super) enum Job {
 
 impl Tag {
     /// A pending part two lets nothing but AF through, and AF needs one.
-    pub(super) fn wrapped(&mut self, ins: Native, data: &[u8], call: &Call) -> Answer<Reply> {
+    pub(super) fn wrapped(&mut self, ins: Native, data: &[u8], call: &mut Call) -> Answer<Reply> {
         match (self.end_pending(), ins) {
-            (Some(pending), Native::PartTwo) => self.part_two(pending, data, call),
+            (Some(pending), Native::PartTwo) => self.part_two(pending, data, call.without_access()),
             (Some(_), _) => Err(Status::CommandAborted),
             (None, Native::PartTwo) => Err(Status::IllegalCommandCode),
-            (None, Native::AuthenticateEv2First) => self.first(data, call),
-            (None, Native::AuthenticateEv2NonFirst) => self.non_first(data, call),
+            (None, Native::AuthenticateEv2First) => self.first(data, call.without_access()),
+            (None, Native::AuthenticateEv2NonFirst) => self.non_first(data, call.without_access()),
             (None, _) => self.secured(ins, data, call),
         }
     }
 
     /// Target, access, CmdCtr and messaging, the command's own values, and the reply in
     /// the mode fixed by access.
-    fn secured(&mut self, ins: Native, message: &[u8], call: &Call) -> Answer<Reply> {
+    fn secured(&mut self, ins: Native, message: &[u8], call: &mut Call) -> Answer<Reply> {
         let job = self.job(ins, message)?;
-        let mode = self.grant(job)?;
+        let mode = call.decided(self.access(job))?;
         let data = self.receive(mode, ins, message)?;
         let fields = message.get(1..ins.header()).unwrap_or_default();
         let out = self.perform(job, mode, fields, data, call)?;
@@ -76,15 +77,15 @@ impl Tag {
         })
     }
 
-    pub(super) fn grant(&self, job: Job) -> Answer<Mode> {
+    pub(super) fn access(&self, job: Job) -> Answer<Access> {
         match job {
-            Job::ChangeKey(_) => self.grant_session(|key| key == 0),
-            Job::CardUid => self.grant_session(|_| true),
-            Job::KeyVersion(_) | Job::FileSettings(_) => Ok(self.grant_always()),
-            Job::ChangeSettings(file) => self.grant_change(file),
-            Job::Counters(file) => self.grant_counters(file),
-            Job::Read(file) => self.grant_read(file),
-            Job::Write(file) => self.grant_write(file),
+            Job::ChangeKey(_) => self.access_session(|key| key == 0),
+            Job::CardUid => self.access_session(|_| true),
+            Job::KeyVersion(_) | Job::FileSettings(_) => Ok(self.access_always()),
+            Job::ChangeSettings(file) => self.access_change(file),
+            Job::Counters(file) => self.access_counters(file),
+            Job::Read(file) => self.access_read(file),
+            Job::Write(file) => self.access_write(file),
         }
     }
 

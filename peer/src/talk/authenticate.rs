@@ -10,8 +10,10 @@ impl Talk {
     /// A key number: 0, one that some file asks for, or any.
     fn key_number(&mut self) -> u8 {
         let file = self.rng.pick(&FileNo::ALL);
-        let rights = self.tag.settings(file).rights;
-        let conditions = [rights.read, rights.write, rights.read_write, rights.change];
+        let settings = self.tag.settings(file);
+        let rights = settings.rights;
+        let mut conditions = vec![rights.read, rights.write, rights.read_write, rights.change];
+        conditions.extend(settings.sdm.iter().map(|sdm| sdm.counter_right));
         match (self.rng.below(3), self.rng.pick(&conditions)) {
             (0, _) => 0,
             (1, Condition::Key(key)) => key,

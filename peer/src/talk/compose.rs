@@ -5,7 +5,7 @@ use super::files::header;
 use super::Talk;
 use crate::command::Native;
 use crate::reader::wrap;
-use crate::settings::FileNo;
+use crate::settings::{FileNo, Mode};
 use crate::tag::{ReadKind, LAST_CMD_CTR};
 
 impl Talk {
@@ -13,7 +13,7 @@ impl Talk {
         if let Some(end) = self.wear {
             return self.wear_out(end);
         }
-        let act = if let Some(act) = self.go_on_tapping() {
+        let act = if let Some(act) = self.go_on_tapping().or_else(|| self.counters_by_key()) {
             act
         } else if self.tag.at_picc_level() {
             self.rng.weighted(&AT_PICC)
@@ -36,6 +36,13 @@ impl Talk {
             ReadKind::ReadData => Act::Read,
             ReadKind::IsoReadBinary => Act::IsoRead,
         })
+    }
+
+    /// GetFileCounters, in some of the cases where the session's key grants it, since few
+    /// sessions have that key.
+    fn counters_by_key(&mut self) -> Option<Act> {
+        let mode = self.tag.mode_of(Native::GetFileCounters, &[2]);
+        (mode == Some(Mode::Full) && self.rng.chance(15)).then_some(Act::Counters)
     }
 
     /// Opens a session, drives its CmdCtr up to the end and then tries what still goes.

@@ -12,6 +12,7 @@ mod tally;
 
 pub use tally::Tally;
 
+use crate::grant::Grant;
 use crate::log::{Exchange, Log};
 use crate::rng::Rng;
 use crate::tag::{Tag, Uid, LAST_CMD_CTR};
@@ -32,8 +33,13 @@ struct Talk {
     wear: Option<u16>,
 }
 
-/// One talk from a fresh tag; seed and index fix it.
-pub fn talk(seed: u64, index: u64, exchanges: usize, tally: &mut Tally) -> Option<Log> {
+/// One talk from a fresh tag, and why each exchange was granted; seed and index fix it.
+pub fn talk(
+    seed: u64,
+    index: u64,
+    exchanges: usize,
+    tally: &mut Tally,
+) -> Option<(Log, Vec<Grant>)> {
     let mut rng = Rng::new(seed ^ Rng::new(index).draw());
     let mut uid: Uid = rng.array();
     uid[0] = 0x04;
@@ -44,8 +50,8 @@ pub fn talk(seed: u64, index: u64, exchanges: usize, tally: &mut Tally) -> Optio
         wear: (exchanges > WORN_FROM).then(|| LAST_CMD_CTR - rng.below(4) as u16),
         rng,
     };
-    let exchanges = (0..exchanges).map(|_| talk.exchange(tally)).collect();
-    Some(Log { uid, exchanges })
+    let (exchanges, grants) = (0..exchanges).map(|_| talk.exchange(tally)).unzip();
+    Some((Log { uid, exchanges }, grants))
 }
 
 impl Talk {
@@ -57,7 +63,7 @@ impl Talk {
         }
     }
 
-    fn exchange(&mut self, tally: &mut Tally) -> Exchange {
+    fn exchange(&mut self, tally: &mut Tally) -> (Exchange, Grant) {
         let mut command = self.compose();
         let harm = self.in_care(self.harm, 6);
         if self.wear.is_none() && self.rng.chance(harm) {
@@ -65,14 +71,16 @@ impl Talk {
         }
         let random = self.rng.array();
         let before = tally::Before::of(&self.tag);
-        let reply = self.tag.exchange(&command, &random);
+        let (reply, grant) = self.tag.explained(&command, &random);
+        tally.count_grant(grant);
         if !tally.count(&before, &self.tag, &command, &reply) {
             self.wear = None;
         }
-        Exchange {
+        let exchange = Exchange {
             command,
             reply,
             random,
-        }
+        };
+        (exchange, grant)
     }
 }

@@ -3,6 +3,7 @@
 use std::collections::BTreeMap;
 use std::fmt;
 
+use crate::grant::Grant;
 use crate::tag::Tag;
 
 /// How often each thing happened.
@@ -18,6 +19,7 @@ pub struct Tally {
     settings_changed: usize,
     keys_changed: usize,
     statuses: BTreeMap<String, usize>,
+    grants: BTreeMap<String, usize>,
 }
 
 /// What the tag was like when the command came.
@@ -80,6 +82,11 @@ impl Tally {
         *self.statuses.entry(name(status)).or_default() += 1;
         accepted
     }
+
+    /// Counts why an exchange was granted.
+    pub(super) fn count_grant(&mut self, grant: Grant) {
+        *self.grants.entry(grant.to_string()).or_default() += 1;
+    }
 }
 
 impl fmt::Display for Tally {
@@ -98,8 +105,8 @@ impl fmt::Display for Tally {
         for (what, sum) in rows {
             writeln!(out, "{what:<22}{sum:>9}")?;
         }
-        for (status, sum) in &self.statuses {
-            writeln!(out, "{status:<22}{sum:>9}")?;
+        for (what, sum) in self.statuses.iter().chain(&self.grants) {
+            writeln!(out, "{what:<22}{sum:>9}")?;
         }
         Ok(())
     }

@@ -66,7 +66,7 @@ static int fits(const byte *digits, mainspur_size n, Word pattern) {
 }
 
 static Outcome exchange(const Word *w, int words) {
-    byte command[261], random[MAINSPUR_RANDOM], room[BIG], ours[2 * BIG];
+    byte command[261], random[MAINSPUR_RANDOM], room[BIG], journal[MAINSPUR_JOURNAL], ours[2 * BIG];
     fill(random, 0, sizeof random);
     if (words < 3) return faulty("fewer than three words");
     long n = decode(w[0], command, sizeof command), drawn = is(w[1], "-") ? 0 : decode(w[1], random, sizeof random);
@@ -77,7 +77,8 @@ static Outcome exchange(const Word *w, int words) {
     if (!is_pattern(w[2])) return faulty("a reply that is not capital hexadecimal or '?'");
 
     blank(room);
-    mainspur_size got = mainspur_call(tag, IMAGE, command, (mainspur_size)n, random, sizeof random, room, BIG);
+    mainspur_size got = mainspur_call(tag, IMAGE, command, (mainspur_size)n, random, sizeof random, room, BIG, journal,
+                                      sizeof journal);
     if (got < 2 || got > MAINSPUR_ROOM) return refused_with(w[2], got);
     mainspur_size digits = encode(room, got, ours);
     if (!fits(ours, digits, w[2])) return other_answer(w[2], ours, digits);

@@ -24,12 +24,16 @@ slice-aggregate-told c =
 told-requires : tie.Need-told-requires
 told-requires c κs = search needs
 
+noted-requires : tie.Need-noted-requires
+noted-requires c κs = search needs
+
 returns : tie.Need-returns
 returns c =
-    let a = c .before .before .before .before .before .before .before .before .before .args in
-    let called = c .before .before .before .before .call in
+    let a = c .before .before .before .before .before .before .before .before .before .before .args in
+    let called = c .before .before .before .before .before .call in
+    let key = a .tag .live .key in
     let x = called .last .1 .1 .1 .0 in (
-      acted-is (called .result) x (a .expected .now) (c .told .result) (c .told .ensures)
+      acted-is (called .result) key x (a .expected .now) (c .before .told .result) (c .noted .result) (c .before .told .ensures) (c .noted .ensures)
           ∙ played-is (a .tag) (a .command .now) (a .random .now) (a .expected .now) (called .result) x (called .ensures .told) (called .ensures .left),
       called .ensures .short,
     )
@@ -43,4 +47,5 @@ play-spec =
     array-share-prefix-room
     slice-aggregate-told
     told-requires
+    noted-requires
     returns)

@@ -14,12 +14,12 @@ carry-out-requires c κs = search needs
 
 array-share-prefix-reply : tie.Need-array-share-prefix-reply
 array-share-prefix-reply c =
-    let carry-out = c .before .before .before .carry-out in
+    let carry-out = c .before .before .before .before .carry-out in
     let k : length (carry-out .result .room) ≡ 258 = search needs in omega (arith, carry-out .ensures .1)
 
 slice-aggregate-line-text : tie.Need-slice-aggregate-line-text
 slice-aggregate-line-text c =
-    let carry-out = c .before .before .before .before .carry-out in
+    let carry-out = c .before .before .before .before .before .carry-out in
     let k : length (carry-out .result .room) ≡ 258 = search needs in simp length-take (omega (arith, carry-out .ensures .1))
 
 line-text-requires : tie.Need-line-text-requires
@@ -31,12 +31,10 @@ same-length c = search needs
 returns : tie.Need-returns
 unfolding toldOf
 returns c =
-    let carry-out = c .before .before .before .before .before .before .before .before .carry-out in
-    let a = c .before .before .before .before .before .before .before .before .before .before .before .before .before .before .args in (
-      ap (λ (x :
-          Acted). x .turn) (carry-out .ensures .0),
-      lays-as (c .before .before .line-text .ensures) (ap (λ (x : Acted). toldOf (a .number) (a .m) (a .c
-          .now) (a .e .now) x) (carry-out .ensures .0)),
+    let carried = c .before .before .before .before .before .before .before .before .before .carry-out .ensures .0 in
+    let a = c .before .before .before .before .before .before .before .before .before .before .before .before .before .before .before .args in (
+      ap (λ (x : Acted). x .turn) carried,
+      lays-as (c .before .before .line-text .ensures) (ap (λ (x : Acted). toldOf (a .number) (a .m) (a .c .now) (a .e .now) x) carried),
     )
 
 pub turned-spec : {M : Type 1} → statement M

@@ -4,12 +4,12 @@ use borrow.Author.Needs.{needs}
 use Rattle.access.proofs.granting.change_grant.Statement.{statement}
 use Rattle.access.proofs.granting.change_grant.Tie as tie
 
-granted-requires : tie.Need-granted-requires
-granted-requires c κs = search needs
+one-right-requires : tie.Need-one-right-requires
+one-right-requires c κs = search needs
 
 returns : tie.Need-returns
 unfolding changeGrant
-returns c = c .granted .ensures
+returns c = c .one-right .ensures
 
 pub change-grant-spec : {M : Type 1} → statement M
-change-grant-spec = tie.close (tie.spec granted-requires returns)
+change-grant-spec = tie.close (tie.spec one-right-requires returns)

@@ -7,8 +7,8 @@ use borrow.Author.Needs.{needs}
 use Rattle.access.proofs.granting.counter_grant.Statement.{statement}
 use Rattle.access.proofs.granting.counter_grant.Tie as tie
 
-granted-requires : tie.Need-granted-requires
-granted-requires c κs = search needs
+one-right-requires : tie.Need-one-right-requires
+one-right-requires c κs = search needs
 
 with-sdm-requires : tie.Need-with-sdm-requires
 with-sdm-requires c κs = search needs
@@ -17,7 +17,7 @@ returns : tie.Need-returns
 unfolding counterGrant
 returns c =
     let a = c .before .before .args in
-    c .with-sdm .ensures ∙ ap (λ g. pick (a .h .sdm) g Never) (c .before .granted .ensures)
+    c .with-sdm .ensures ∙ ap (λ g. pick (a .h .sdm) g Never) (c .before .one-right .ensures)
 
 pub counter-grant-spec : {M : Type 1} → statement M
-counter-grant-spec = tie.close (tie.spec granted-requires with-sdm-requires returns)
+counter-grant-spec = tie.close (tie.spec one-right-requires with-sdm-requires returns)

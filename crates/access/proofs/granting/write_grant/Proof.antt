@@ -4,12 +4,12 @@ use borrow.Author.Needs.{needs}
 use Rattle.access.proofs.granting.write_grant.Statement.{statement}
 use Rattle.access.proofs.granting.write_grant.Tie as tie
 
-granted-requires : tie.Need-granted-requires
-granted-requires c κs = search needs
+two-rights-requires : tie.Need-two-rights-requires
+two-rights-requires c κs = search needs
 
 returns : tie.Need-returns
 unfolding writeGrant
-returns c = c .granted .ensures
+returns c = c .two-rights .ensures
 
 pub write-grant-spec : {M : Type 1} → statement M
-write-grant-spec = tie.close (tie.spec granted-requires returns)
+write-grant-spec = tie.close (tie.spec two-rights-requires returns)

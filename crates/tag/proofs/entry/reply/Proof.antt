@@ -3,7 +3,7 @@ use mathlib.Core.Path.{subst, _∙_}
 use borrow.Author.Needs.{needs}
 use Rattle.base.proofs.Bytes.{laid-whole}
 use Rattle.replies.specs.Answer.{Gives}
-use Rattle.tag.specs.Way.{answered}
+use Rattle.tag.specs.Way.{answered, noted}
 use Rattle.tag.proofs.Calling.{replies}
 use Rattle.tag.proofs.entry.reply.Statement.{statement}
 use Rattle.tag.proofs.entry.reply.Tie as tie
@@ -24,14 +24,14 @@ same-length : tie.Need-same-length
 same-length c = search needs
 
 returns : tie.Need-returns
-returns c = let a = c .before .before .before .before .before .before .before .before .before .before .before .before .before .args in
-    replies (answered (a .tag) (a .command .now) (a .random .now)) (c .before .before .before .before .before .before .answered .result) (a .room .now) _ _
-    (subst (λ x. Gives (answered (a .tag) (a .command .now) x)
-    (c .before .before .before .before .before .before .answered .result))
-    (c .before .before .before .before .before .before .before .before .put .ensures
-    ∙ laid-whole (a .random .now) _ (c .before .before .before .before .before .before .before .before .before .before .before .before .before .pre .1 .1 .0))
-    (c .before .before .before .before .before .before .answered .ensures))
-    (c .before .before .before .lay .ensures)
+returns c =
+    let b = c .before .before .before .before .before .before .before .before .before .before .before .before .before .before in
+    let a = b .args in
+    let y = c .before .before .before .before .before .before .before .answered in
+    let u = answered (a .tag) (a .command .now) (a .random .now) in
+    let given = subst (λ x. Gives (answered (a .tag) (a .command .now) x) (y .result .done))
+    (c .before .before .before .before .before .before .before .before .before .put .ensures ∙ laid-whole (a .random .now) _ (b .pre .1 .1 .0)) (y .ensures .0) in
+    replies u (y .result .done) (a .room .now) _ _ given (c .before .before .before .lay .ensures) (y .result .noted) (noted (a .tag) (a .command .now)) (y .ensures .1)
 
 pub reply-spec : {M : Type 1} → statement M
 reply-spec =

@@ -10,6 +10,9 @@ use Rattle.telling.proofs.turn.played.Tie as tie
 exchange-requires : tie.Need-exchange-requires
 exchange-requires c κs = search needs
 
+access-line-requires : tie.Need-access-line-requires
+access-line-requires c κs = search needs
+
 unlike-requires : tie.Need-unlike-requires
 unlike-requires c κs = search needs
 
@@ -18,16 +21,20 @@ same-length c = search needs
 
 returns : tie.Need-returns
 unfolding playedText
-returns c = rw (c .before .before .before .before .if1 .taken) (lays-more (c .before .before .before .before .before .before .before .exchange .ensures) (c .before .before .unlike .ensures))
+returns c =
+    let b = c .before .before .before .before .before .before .before in
+    let m = lays-more (b .before .before .before .before .exchange .ensures) (b .access-line .ensures) in
+    rw (c .before .before .before .before .if1 .taken) (lays-more m (c .before .before .unlike .ensures))
 
 same-length-2 : tie.Need-same-length-2
 same-length-2 c = search needs
 
 returns-2 : tie.Need-returns-2
 unfolding playedText
-returns-2 c = rw (c .if1 .left) (lays-as (c .before .before .before .exchange .ensures) (sym (append-nil _)))
+returns-2 c =
+    rw (c .if1 .left) (lays-as (lays-more (c .before .before .before .before .before .before .before .exchange .ensures) (c .before .before .before .access-line .ensures)) (sym (append-nil _)))
 
 pub played-spec : {M : Type 1} → statement M
 played-spec =
     tie.close
-    (tie.spec exchange-requires unlike-requires same-length returns same-length-2 returns-2)
+    (tie.spec exchange-requires access-line-requires unlike-requires same-length returns same-length-2 returns-2)
