@@ -42,7 +42,8 @@ allNever [] h file = eqb file 15
 allNever (r ∷ rs) h file = and (eqb (conditionOf r h) 15) (allNever rs h file)
 
 -- The rights that a command looks at, in Table 9's order, and for a read with SDM on SDMFileRead (else F). In session a condition equal to the
--- key grants; without session SDMFileRead 0 to 4 is read with mirroring; failing that, E grants. Not granted: every condition F, or not.
+-- key grants; without session SDMFileRead 0 to 4 is read with mirroring; failing that, E grants. Not granted: every condition F, or not. (02:
+-- key before free, the tap rule before E; of several rights alike, the first)
 unfoldable pub granted : Live → Head → List Right → ℕ → Grant
 granted l h asked file =
     let free = firstOf 14 Free asked h (pick (allNever asked h file) Never Denied) in
