@@ -30,7 +30,7 @@ use Rattle.arguments.specs.Arguments.{Asks, besideLength, besideRoom}
 use Rattle.arguments.specs.declared.Asked.{Asked}
 use Rattle.forms.specs.Rooms.{Lays}
 use Rattle.forms.specs.Forms.{formOf}
-use Rattle.telling.specs.declared.Journal.{Journal}
+use Rattle.telling.specs.declared.Why.{Why}
 use Rattle.telling.specs.Turns.{lineText}
 use Rattle.tallies.specs.Counts.{countedBy, noTally}
 use Rattle.tallies.specs.declared.Tally.{Tally}
@@ -152,9 +152,9 @@ pub append-form-determined : (form numbers : List ℕ) (flags : List Bool) (room
 append-form-determined form numbers flags room n = append-determined (formOf true form numbers flags) room n
 
 -- ---- telling
-pub line-text-determined : (number : ℕ) (m : Meaning) (c reply : List ℕ) (j : Journal) (e : List ℕ) (undrawn unmet : Bool) (room : List ℕ)
-    → DeterminedIn (λ (r : ℕ) (new : List ℕ). Lays (lineText number m c reply j e undrawn unmet) 0 room r new)
-line-text-determined number m c reply j e undrawn unmet room = append-determined (lineText number m c reply j e undrawn unmet) room 0
+pub line-text-determined : (number : ℕ) (m : Meaning) (c reply : List ℕ) (why : Why) (e : List ℕ) (undrawn unmet : Bool) (room : List ℕ)
+    → DeterminedIn (λ (r : ℕ) (new : List ℕ). Lays (lineText number m c reply why e undrawn unmet) 0 room r new)
+line-text-determined number m c reply why e undrawn unmet room = append-determined (lineText number m c reply why e undrawn unmet) room 0
 
 -- ---- tallies
 pub counted-determined : (n : Tally) (number : ℕ) (w : Went) → Determined (λ (r : Tally). r ≡ countedBy n number w)

@@ -5,7 +5,7 @@ use Prim.Native.Nat.{ℕ}
 use lib.Dec.{eqb}
 use Rattle.base.specs.Decide.{pick}
 use Rattle.forms.specs.Forms.{formOf}
-use Rattle.telling.specs.declared.Journal.{Journal}
+use Rattle.telling.specs.declared.Why.{Why}
 
 -- "  access: {by key #}{a tap}{free}{needs no right}{refused}{, under Read}{, under Write}{, under ReadWrite}{, under Change}
 -- {, under SDMMetaRead}{, under SDMFileRead}{, under SDMCtrRet}", on one line, and its end
@@ -22,11 +22,11 @@ accessForm =
     116 ∷ 114 ∷ 82 ∷ 101 ∷ 116 ∷ 125 ∷ 10 ∷ []
 
 -- by the numbers of a journal: how (1 to 5) and under which right (1 to 7, in Table 9's order); nothing where the decision was never got to
-unfoldable pub accessText : Journal → List ℕ
-accessText j =
-    let how = j .how in
-    let right = j .right in
+unfoldable pub accessText : Why → List ℕ
+accessText why =
+    let how = why .how in
+    let right = why .right in
     pick (eqb how 0) []
-    (formOf true accessForm (j .key ∷ [])
+    (formOf true accessForm (why .key ∷ [])
     (eqb how 1 ∷ eqb how 2 ∷ eqb how 3 ∷ eqb how 4 ∷ eqb how 5
     ∷ eqb right 1 ∷ eqb right 2 ∷ eqb right 3 ∷ eqb right 4 ∷ eqb right 5 ∷ eqb right 6 ∷ eqb right 7 ∷ []))

@@ -9,7 +9,7 @@ use Rattle.plans.specs.declared.Meaning.{Meaning}
 use Rattle.plans.specs.declared.Meaning.the-variants.{Blank, Drawn, Given, Bad}
 use Rattle.plans.specs.Numbers.{reasonNumber}
 use Rattle.forms.specs.Forms.{formOf}
-use Rattle.telling.specs.declared.Journal.{Journal}
+use Rattle.telling.specs.declared.Why.{Why}
 use Rattle.telling.specs.Exchanges.{exchangeOf, unlikeOf}
 use Rattle.telling.specs.Decision.{accessText}
 
@@ -34,17 +34,17 @@ skippedForm =
 
 -- by the reason's number; 7 where the machine gives no random bytes
 unfoldable pub skippedText : ℕ → ℕ → List ℕ
-skippedText number why =
-    formOf true skippedForm (number ∷ []) (eqb why 1 ∷ eqb why 2 ∷ eqb why 3 ∷ eqb why 4 ∷ eqb why 5 ∷ eqb why 6 ∷ eqb why 7 ∷ [])
+skippedText number reason =
+    formOf true skippedForm (number ∷ []) (eqb reason 1 ∷ eqb reason 2 ∷ eqb reason 3 ∷ eqb reason 4 ∷ eqb reason 5 ∷ eqb reason 6 ∷ eqb reason 7 ∷ [])
 
 -- an exchange, how its command was granted, and what was expected where the reply was not that
-unfoldable pub playedText : ℕ → List ℕ → List ℕ → Journal → List ℕ → Bool → List ℕ
-playedText number command reply j expected unmet = exchangeOf number command reply ++ accessText j ++ pick unmet (unlikeOf expected) []
+unfoldable pub playedText : ℕ → List ℕ → List ℕ → Why → List ℕ → Bool → List ℕ
+playedText number command reply why expected unmet = exchangeOf number command reply ++ accessText why ++ pick unmet (unlikeOf expected) []
 
 -- a line with this number: its command is the first n bytes of c
-unfoldable pub lineText : ℕ → Meaning → List ℕ → List ℕ → Journal → List ℕ → Bool → Bool → List ℕ
-lineText number Blank c reply j expected undrawn unmet = []
-lineText number (Bad r) c reply j expected undrawn unmet = skippedText number (reasonNumber r)
-lineText number (Drawn n) c reply j expected undrawn unmet =
-    pick undrawn (skippedText number 7) (playedText number (take n c) reply j expected unmet)
-lineText number (Given n) c reply j expected undrawn unmet = playedText number (take n c) reply j expected unmet
+unfoldable pub lineText : ℕ → Meaning → List ℕ → List ℕ → Why → List ℕ → Bool → Bool → List ℕ
+lineText number Blank c reply why expected undrawn unmet = []
+lineText number (Bad r) c reply why expected undrawn unmet = skippedText number (reasonNumber r)
+lineText number (Drawn n) c reply why expected undrawn unmet =
+    pick undrawn (skippedText number 7) (playedText number (take n c) reply why expected unmet)
+lineText number (Given n) c reply why expected undrawn unmet = playedText number (take n c) reply why expected unmet

@@ -1,16 +1,16 @@
 // What is printed of the access decision.
 ghost use Rattle.forms.specs.Rooms.{Lays};
 ghost use Rattle.telling.specs.Decision.{accessText};
-use crate::Journal;
+use crate::Why;
 use forms::append_form;
 
 // How a command was granted and under which right, in words; nothing where it never got to the decision.
-pub fn access_line(j: Journal, room: &mut [u8], n: usize) -> usize
-    ensures { λ r. ⌜ Lays (accessText j) n (now (room .entry)) r (now (room .exit)) ⌝ }
+pub fn access_line(why: Why, room: &mut [u8], n: usize) -> usize
+    ensures { λ r. ⌜ Lays (accessText why) n (now (room .entry)) r (now (room .exit)) ⌝ }
 {
-    let how = j.how;
-    let right = j.right;
-    let key = j.key as u64;
+    let how = why.how;
+    let right = why.right;
+    let key = why.key as u64;
     if how == 0 {
         return n;
     }

@@ -7,8 +7,8 @@ mod turn;
 
 pub use turn::line_text;
 
-// How a command was granted and under which right, by the numbers of a journal, and the key of the session that it came in.
-pub struct Journal {
+// Why a command was granted: how and under which right, by the numbers of a journal, and the key of the session that it came in.
+pub struct Why {
     pub how: u8,
     pub right: u8,
     pub key: u8,

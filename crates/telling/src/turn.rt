@@ -4,7 +4,7 @@ ghost use lib.ListN.{take};
 ghost use Rattle.forms.specs.Rooms.{Lays};
 ghost use Rattle.plans.specs.Numbers.{reasonNumber};
 ghost use Rattle.telling.specs.Turns.{skippedText, playedText, lineText};
-use crate::Journal;
+use crate::Why;
 use crate::decision::access_line;
 use crate::exchanges::exchange;
 use crate::exchanges::unlike;
@@ -27,8 +27,8 @@ fn number_of(r: Reason) -> u8
 }
 
 // Says why a line is skipped.
-fn skipped(number: u64, why: u8, room: &mut [u8]) -> usize
-    ensures { λ r. ⌜ Lays (skippedText number why) 0 (now (room .entry)) r (now (room .exit)) ⌝ }
+fn skipped(number: u64, reason: u8, room: &mut [u8]) -> usize
+    ensures { λ r. ⌜ Lays (skippedText number reason) 0 (now (room .entry)) r (now (room .exit)) ⌝ }
 {
     append_form(
         b"line #: {no command before '/' or '='}{a character that is no hexadecimal digit}{an odd number of digits}\
@@ -36,13 +36,13 @@ fn skipped(number: u64, why: u8, room: &mut [u8]) -> usize
 {behind '=' there must be 1 to 258 bytes, two digits each, and it comes last}{the machine gives no random bytes}; skipped\n",
         &[number],
         &[
-            why == 1,
-            why == 2,
-            why == 3,
-            why == 4,
-            why == 5,
-            why == 6,
-            why == 7,
+            reason == 1,
+            reason == 2,
+            reason == 3,
+            reason == 4,
+            reason == 5,
+            reason == 6,
+            reason == 7,
         ],
         room,
         0,
@@ -54,15 +54,15 @@ fn played(
     number: u64,
     command: &[u8],
     reply: &[u8],
-    j: Journal,
+    why: Why,
     expected: &[u8],
     unmet: bool,
     room: &mut [u8],
 ) -> usize
-    ensures { λ r. ⌜ Lays (playedText number (now (command .entry)) (now (reply .entry)) j (now (expected .entry)) unmet) 0 (now (room .entry)) r (now (room .exit)) ⌝ }
+    ensures { λ r. ⌜ Lays (playedText number (now (command .entry)) (now (reply .entry)) why (now (expected .entry)) unmet) 0 (now (room .entry)) r (now (room .exit)) ⌝ }
 {
     let a = exchange(number, command, reply, room);
-    let b = access_line(j, room, a);
+    let b = access_line(why, room, a);
     if unmet {
         return unlike(expected, room, b);
     }
@@ -75,17 +75,17 @@ fn front(
     n: usize,
     c: &[u8],
     reply: &[u8],
-    j: Journal,
+    why: Why,
     e: &[u8],
     unmet: bool,
     room: &mut [u8],
 ) -> usize
-    ensures { λ r. ⌜ Lays (playedText number (take n (now (c .entry))) (now (reply .entry)) j (now (e .entry)) unmet) 0 (now (room .entry)) r (now (room .exit)) ⌝ }
+    ensures { λ r. ⌜ Lays (playedText number (take n (now (c .entry))) (now (reply .entry)) why (now (e .entry)) unmet) 0 (now (room .entry)) r (now (room .exit)) ⌝ }
 {
     if n < c.len() {
-        return played(number, &c[..n], reply, j, e, unmet, room);
+        return played(number, &c[..n], reply, why, e, unmet, room);
     }
-    played(number, c, reply, j, e, unmet, room)
+    played(number, c, reply, why, e, unmet, room)
 }
 
 // What a line with this number did: its command is the first bytes of c.
@@ -94,13 +94,13 @@ pub fn line_text(
     m: Meaning,
     c: &[u8],
     reply: &[u8],
-    j: Journal,
+    why: Why,
     e: &[u8],
     undrawn: bool,
     unmet: bool,
     room: &mut [u8],
 ) -> usize
-    ensures { λ r. ⌜ Lays (lineText number m (now (c .entry)) (now (reply .entry)) j (now (e .entry)) undrawn unmet) 0 (now (room .entry)) r (now (room .exit)) ⌝ }
+    ensures { λ r. ⌜ Lays (lineText number m (now (c .entry)) (now (reply .entry)) why (now (e .entry)) undrawn unmet) 0 (now (room .entry)) r (now (room .exit)) ⌝ }
 {
     match m {
         Meaning::Blank => 0,
@@ -109,8 +109,8 @@ pub fn line_text(
             if undrawn {
                 return skipped(number, 7, room);
             }
-            front(number, n, c, reply, j, e, unmet, room)
+            front(number, n, c, reply, why, e, unmet, room)
         }
-        Meaning::Given(n) => front(number, n, c, reply, j, e, unmet, room),
+        Meaning::Given(n) => front(number, n, c, reply, why, e, unmet, room),
     }
 }

@@ -12,7 +12,7 @@ use Rattle.first_lines.specs.Said.{said}
 use Rattle.plans.specs.declared.Meaning.{Meaning}
 use Rattle.plans.specs.declared.Meaning.the-variants.{Blank, Drawn, Given, Bad}
 use Rattle.tag.specs.Way.{answered, noted}
-use Rattle.telling.specs.declared.Journal.{Journal}
+use Rattle.telling.specs.declared.Why.{Why}
 use Rattle.tag.specs.Call.{outcomeOf, byOutcome, roomBy}
 use Rattle.tag.specs.declared.Called.{Called}
 use Rattle.verdict.specs.Replies.{statusIn, refusing, differing}
@@ -20,7 +20,7 @@ use Rattle.tallies.specs.declared.Went.{Went}
 use Rattle.turns.specs.declared.Turn.{Turn}
 use Rattle.turns.specs.declared.Acted.{Acted}
 use Rattle.turns.specs.Steps.{nextOf, replyTo, wentBy, toldBy, played, stays, Drew, Draws, Carried}
-use Rattle.turns.specs.Acts.{journalWith, actedOf, playedAs, silent, drawnBy, actedBy}
+use Rattle.turns.specs.Acts.{whyWith, actedOf, playedAs, silent, drawnBy, actedBy}
 
 -- what is said of a command, by what was computed for it
 pub went-is : (reply expected : List ℕ) (s : ℕ) (f u : Bool) → s ≡ statusIn reply → f ≡ refusing s → u ≡ differing expected reply
@@ -46,12 +46,12 @@ went-is reply expected s f u p q r =
     }
 
 -- a turn by what the call answered and left in the room
-pub acted-is : (d : Called) (key : ℕ) (room expected : List ℕ) (w : Went) (j : Journal) → w ≡ wentBy (take (d .length) room) expected
-    → j ≡ journalWith (d .noted) key
-    → _≡_ {A = Acted} (record { turn = record { tag = d .tag; went = w }; length = d .length; room = room; journal = j }) (actedOf d key room expected)
+pub acted-is : (d : Called) (key : ℕ) (room expected : List ℕ) (w : Went) (y : Why) → w ≡ wentBy (take (d .length) room) expected
+    → y ≡ whyWith (d .noted) key
+    → _≡_ {A = Acted} (record { turn = record { tag = d .tag; went = w }; length = d .length; room = room; why = y }) (actedOf d key room expected)
 unfolding actedOf toldBy
-acted-is d key room expected w j p q =
-    λ i. record { turn = record { tag = d .tag; went = p i }; length = d .length; room = room; journal = q i }
+acted-is d key room expected w y p q =
+    λ i. record { turn = record { tag = d .tag; went = p i }; length = d .length; room = room; why = q i }
 
 pub played-is : (t : Tag) (c random expected : List ℕ) (d : Called) (room : List ℕ)
     → d ≡ byOutcome t (answered t c random) (noted t c) (outcomeOf t random (replicate 258 0))

@@ -11,7 +11,7 @@ use Rattle.tag.specs.Call.{outcomeOf, byOutcome, roomBy}
 use Rattle.tag.specs.declared.Called.{Called}
 use Rattle.access.specs.declared.Noted.{Noted}
 use Rattle.access.specs.Marks.{marksOf}
-use Rattle.telling.specs.declared.Journal.{Journal}
+use Rattle.telling.specs.declared.Why.{Why}
 use Rattle.plans.specs.declared.Meaning.{Meaning}
 use Rattle.plans.specs.declared.Meaning.the-variants.{Blank, Drawn, Given, Bad}
 use Rattle.turns.specs.declared.Turn.{Turn}
@@ -19,8 +19,8 @@ use Rattle.turns.specs.declared.Acted.{Acted}
 use Rattle.turns.specs.Steps.{toldBy, stays}
 
 -- what a call notes, and the key of its session
-unfoldable pub journalWith : Noted → ℕ → Journal
-journalWith n key = record { how = marksOf n .how; right = marksOf n .right; key = key }
+unfoldable pub whyWith : Noted → ℕ → Why
+whyWith n key = record { how = marksOf n .how; right = marksOf n .right; key = key }
 
 -- by what the call answers and leaves in the room
 unfoldable pub actedOf : Called → ℕ → List ℕ → List ℕ → Acted
@@ -29,7 +29,7 @@ actedOf d key room expected =
       turn = toldBy (d .tag) (take (d .length) room) expected;
       length = d .length;
       room = room;
-      journal = journalWith (d .noted) key;
+      why = whyWith (d .noted) key;
     }
 
 -- a command that is played
@@ -46,7 +46,7 @@ silent u =
       turn = u;
       length = 0;
       room = replicate 258 0;
-      journal = record { how = 0; right = 0; key = 0 };
+      why = record { how = 0; right = 0; key = 0 };
     }
 
 -- 20 random bytes of the machine are taken, any other number of them is none

@@ -3,14 +3,14 @@ ghost use mathlib.Core.Path.{_≡_};
 ghost use Prim.Native.Nat.{_≤_};
 ghost use lib.ListN.{take};
 ghost use Rattle.turns.specs.Steps.{wentBy, stays};
-ghost use Rattle.turns.specs.Acts.{journalWith, playedAs, silent, drawnBy, actedBy};
+ghost use Rattle.turns.specs.Acts.{whyWith, playedAs, silent, drawnBy, actedBy};
 ghost use Rattle.turns.specs.Lines.{toldOf, lineActed, lineTold};
 ghost use Rattle.forms.specs.Rooms.{Lays};
 use access::Noted;
 use plans::Meaning;
 use state::Tag;
 use tallies::Went;
-use telling::Journal;
+use telling::Why;
 
 // The tag behind a line.
 pub struct Turn {
@@ -23,7 +23,7 @@ pub struct Acted {
     pub turn: Turn,
     pub length: usize,
     pub room: [u8; 258],
-    pub journal: Journal,
+    pub why: Why,
 }
 
 // The turn, and how much of the room its text takes.
@@ -50,11 +50,11 @@ fn told(reply: &[u8], expected: &[u8]) -> Went
 }
 
 // What a call notes, and the key of its session.
-fn noted(n: Noted, key: u8) -> Journal
-    ensures { λ r. ⌜ r ≡ journalWith n key ⌝ }
+fn noted(n: Noted, key: u8) -> Why
+    ensures { λ r. ⌜ r ≡ whyWith n key ⌝ }
 {
     let m = access::marked(n);
-    Journal {
+    Why {
         how: m.how,
         right: m.right,
         key,
@@ -73,12 +73,12 @@ fn play(tag: Tag, command: &[u8], random: &[u8], expected: &[u8]) -> Acted
     let went = told(&room[..length], expected);
     let turn = Turn { tag: t, went };
     let n = d.noted;
-    let journal = noted(n, tag.live.key);
+    let why = noted(n, tag.live.key);
     Acted {
         turn,
         length,
         room,
-        journal,
+        why,
     }
 }
 
@@ -108,7 +108,7 @@ fn still(tag: Tag, skipped: bool, undrawn: bool) -> Acted
     };
     let turn = Turn { tag, went };
     let room = [0u8; 258];
-    let journal = Journal {
+    let why = Why {
         how: 0,
         right: 0,
         key: 0,
@@ -117,7 +117,7 @@ fn still(tag: Tag, skipped: bool, undrawn: bool) -> Acted
         turn,
         length: 0,
         room,
-        journal,
+        why,
     }
 }
 
@@ -166,14 +166,14 @@ fn turned(
     let turn = a.turn;
     let n = a.length;
     let reply = a.room;
-    let j = a.journal;
+    let why = a.why;
     let went = turn.went;
     let length = telling::line_text(
         number,
         m,
         c,
         &reply[..n],
-        j,
+        why,
         e,
         went.undrawn,
         went.unmet,
