@@ -1,5 +1,5 @@
--- The access decision and the way of a command as they were before request 5 of 02, word for word: how a command is granted, but not under
--- which right.
+-- The access decision and the way of a command as they were before request 5 of 02: how a command is granted, but not under which right. The
+-- decision is word for word, but for its names; the way too, but for g, which it carries along. Modes of files, reads and step 7 have not changed.
 use mathlib.Core.Bool.{Bool, true, false, not}
 use mathlib.Core.List.{List}
 use Prim.Native.Nat.{ℕ}
