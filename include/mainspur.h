@@ -36,9 +36,13 @@ typedef __SIZE_TYPE__ mainspur_size;
 #define MAINSPUR_NO_ROOM 1006      /* a room that the normal settings string does not fit in */
 #define MAINSPUR_WRONG_JOURNAL 1007 /* a journal of another length than 16; this comes next after the image's */
 
-/* A journal: why a command was granted, or not. Byte 0 says how, byte 1 under which right; the others are 0.
+/* A journal: why a command was granted, or not, and how many AES blocks the call computed. Byte 0 says how, byte 1 under which right;
+ * bytes 2 and 3 are the number of blocks, low byte first, key schedules not counted; the others are 0.
  * A key is named before E, the tap rule before E, and of several rights alike the first of this list. What refuses behind the
- * access decision (a wrong length, MAC or value, a full CmdCtr, a tap that can't start) leaves its answer. */
+ * access decision (a wrong length, MAC or value, a full CmdCtr, a tap that can't start) leaves its answer. A refusal has the blocks that were
+ * computed before it. A mirrored read has at most MAINSPUR_TAP_BLOCKS, any call at most MAINSPUR_BLOCKS. */
+#define MAINSPUR_TAP_BLOCKS 28
+#define MAINSPUR_BLOCKS 35
 #define MAINSPUR_NOT_REACHED 0 /* how: refused before the decision, by steps 1 to 5, or by refusals 1 to 3 */
 #define MAINSPUR_BY_KEY 1      /* how: the session's key is the right's condition */
 #define MAINSPUR_BY_TAP 2      /* how: the tap rule, under SDMFileRead */
@@ -66,7 +70,7 @@ mainspur_size mainspur_fresh(const unsigned char *uid, mainspur_size uid_length,
 
 /* The tag's answer to a command.
  * 2 to 258: the length of the reply, data and two status bytes. It stands at the front of the room, the rest of the room
- * is as it was, the image holds the next state, and the journal why the command was granted or not.
+ * is as it was, the image holds the next state, and the journal why the command was granted or not and how many blocks it took.
  * MAINSPUR_WRONG_IMAGE, MAINSPUR_WRONG_JOURNAL: image, room and journal are as they were. Then MAINSPUR_SMALL_ROOM,
  * MAINSPUR_WRONG_RANDOM, MAINSPUR_UNSOUND, in this order: image and room are as they were, and the journal holds zeros. Bytes of the
  * right length that are no image at all (another version, a Boolean over 1) are unsound. */

@@ -1,9 +1,28 @@
-//! AES-128 after FIPS 197. Every table is computed from the arithmetic of the field.
+//! AES-128 after FIPS 197. Every table is computed from the arithmetic of the field. Each block is
+//! counted where it is computed (02, request 10).
+
+use std::cell::Cell;
 
 /// One block of sixteen bytes.
 pub type Block = [u8; 16];
 
 const ROUNDS: usize = 10;
+
+thread_local! {
+    /// The blocks that this thread has computed; a key schedule is none.
+    static BLOCKS: Cell<usize> = const { Cell::new(0) };
+}
+
+/// What the work gives, and how many blocks it computed.
+pub fn counted<T>(work: impl FnOnce() -> T) -> (T, usize) {
+    let before = BLOCKS.get();
+    let given = work();
+    (given, BLOCKS.get() - before)
+}
+
+fn count_block() {
+    BLOCKS.set(BLOCKS.get() + 1);
+}
 
 /// What the rounds look up: SubBytes and its inverse, and the column that MixColumns
 /// (after SubBytes) or InvMixColumns makes of one byte in row 0.
@@ -116,6 +135,7 @@ impl Aes {
 
     /// The cipher.
     pub fn encrypt(&self, plain: &Block) -> Block {
+        count_block();
         let mut state = add(columns(plain), self.round_keys[0]);
         for round in 1..ROUNDS {
             state = add(mixed_round(state), self.round_keys[round]);
@@ -125,6 +145,7 @@ impl Aes {
 
     /// The inverse cipher.
     pub fn decrypt(&self, sealed: &Block) -> Block {
+        count_block();
         let mut state = add(columns(sealed), self.round_keys[ROUNDS]);
         for round in (1..ROUNDS).rev() {
             state = unmix(add(unshift(state), self.round_keys[round]));
@@ -210,5 +231,13 @@ mod tests {
         let sealed: Block = 0x69c4e0d86a7b0430d8cdb78070b4c55au128.to_be_bytes();
         assert_eq!(Aes::new(&key).encrypt(&plain), sealed);
         assert_eq!(Aes::new(&key).decrypt(&sealed), plain);
+    }
+
+    #[test]
+    fn blocks_count_both_ways_and_key_schedules_do_not() {
+        let (key, schedule) = counted(|| Aes::new(&[7; 16]));
+        assert_eq!(schedule, 0);
+        assert_eq!(counted(|| key.encrypt(&[1; 16])).1, 1);
+        assert_eq!(counted(|| key.decrypt(&key.encrypt(&[1; 16]))).1, 2);
     }
 }

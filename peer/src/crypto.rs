@@ -37,25 +37,19 @@ pub fn cbc_decrypt(key: &Aes, iv: Block, text: &mut [u8]) {
     }
 }
 
-/// CMAC under one key: the cipher with its two subkeys.
+/// CMAC under one key.
 #[derive(Clone)]
 pub struct Cmac<C> {
     cipher: C,
-    whole: Block,
-    padded: Block,
 }
 
 impl<C: BlockCipher> Cmac<C> {
     pub fn new(cipher: C) -> Cmac<C> {
-        let whole = double(&cipher.encrypt_block(&[0; 16]));
-        Cmac {
-            cipher,
-            whole,
-            padded: double(&whole),
-        }
+        Cmac { cipher }
     }
 
-    /// The CMAC of the parts, one behind the other.
+    /// The CMAC of the parts, one behind the other. The subkeys are made anew for each message:
+    /// their block counts each time (02, request 10).
     pub fn of(&self, parts: &[&[u8]]) -> Block {
         let mut chain = [0; 16];
         let mut filled = 0;
@@ -67,13 +61,12 @@ impl<C: BlockCipher> Cmac<C> {
             chain[filled] ^= byte;
             filled += 1;
         }
-        let subkey = if filled == 16 {
-            &self.whole
-        } else {
+        let mut subkey = double(&self.cipher.encrypt_block(&[0; 16]));
+        if filled < 16 {
             chain[filled] ^= 0x80;
-            &self.padded
-        };
-        self.cipher.encrypt_block(&xor(&chain, subkey))
+            subkey = double(&subkey);
+        }
+        self.cipher.encrypt_block(&xor(&chain, &subkey))
     }
 
     /// The CMAC's second, fourth and every further even place.

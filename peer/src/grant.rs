@@ -1,4 +1,4 @@
-//! Why a command was granted (02, request 5), and the lines of a .grants file: one an exchange.
+//! Why a command was granted (02, request 5).
 
 use std::fmt;
 
@@ -53,43 +53,4 @@ impl fmt::Display for Grant {
             Grant::NotAsked => out.write_str("-"),
         }
     }
-}
-
-/// The text of a .grants file.
-pub fn text(grants: &[Grant]) -> String {
-    grants.iter().map(|grant| format!("{grant}\n")).collect()
-}
-
-/// A line of a .grants file that isn't ours, numbered from 1: wrong, missing or surplus.
-#[derive(PartialEq, Eq, Debug)]
-pub struct Difference {
-    pub number: usize,
-    pub logged: Option<String>,
-    pub ours: Option<Grant>,
-}
-
-impl fmt::Display for Difference {
-    fn fmt(&self, out: &mut fmt::Formatter) -> fmt::Result {
-        let logged = self.logged.as_deref().unwrap_or("missing");
-        write!(out, "{} grant {logged}, ours ", self.number)?;
-        match self.ours {
-            Some(ours) => write!(out, "{ours}"),
-            None => out.write_str("missing"),
-        }
-    }
-}
-
-/// Compares the text of a .grants file with our grants, line by line.
-pub fn differences(text: &str, ours: &[Grant]) -> Vec<Difference> {
-    let logged: Vec<&str> = text.split_terminator('\n').collect();
-    let differing = (0..logged.len().max(ours.len())).filter_map(|place| {
-        let (logged, ours) = (logged.get(place), ours.get(place));
-        let same = logged.map(|line| line.to_string()) == ours.map(Grant::to_string);
-        (!same).then(|| Difference {
-            number: place + 1,
-            logged: logged.map(|line| line.to_string()),
-            ours: ours.copied(),
-        })
-    });
-    differing.collect()
 }

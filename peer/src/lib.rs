@@ -3,6 +3,7 @@
 
 pub mod aes;
 pub mod bench;
+pub mod beside;
 pub mod bytes;
 pub mod command;
 pub mod crypto;

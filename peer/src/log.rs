@@ -3,8 +3,8 @@
 
 use std::fmt;
 
+use crate::beside::{self, Beside, Stored};
 use crate::bytes::{hex, unhex};
-use crate::grant::{self, Grant};
 use crate::tag::{Random, Tag, Uid};
 
 /// One exchange of a log.
@@ -48,20 +48,20 @@ impl fmt::Display for Difference {
     }
 }
 
-/// What a log played gave: the replies that differ, and why each exchange was granted.
+/// What a log played gave: the replies that differ, and what stands beside it.
+#[derive(Default)]
 pub struct Played {
     pub differences: Vec<Difference>,
-    pub grants: Vec<Grant>,
+    pub beside: Beside,
 }
 
 impl Played {
-    /// A line for each reply that differs and for each line of the .grants text, where there is
-    /// one, that isn't ours.
-    pub fn report(&self, grants: Option<&str>) -> Vec<String> {
+    /// A line for each reply that differs, and for each line stored beside the log that isn't ours.
+    pub fn report(&self, stored: &Stored) -> Vec<String> {
         let replies = self.differences.iter().map(Difference::to_string);
-        let grants = grants.map(|text| grant::differences(text, &self.grants));
-        let grants = grants.iter().flatten().map(grant::Difference::to_string);
-        replies.chain(grants).collect()
+        let beside = self.beside.differences(stored);
+        let beside = beside.iter().map(beside::Difference::to_string);
+        replies.chain(beside).collect()
     }
 }
 
@@ -140,13 +140,11 @@ impl Log {
     /// Plays the commands from a fresh tag; none where the UID makes no tag.
     pub fn play(&self) -> Option<Played> {
         let mut tag = Tag::fresh(&self.uid)?;
-        let mut played = Played {
-            differences: Vec::new(),
-            grants: Vec::new(),
-        };
+        let mut played = Played::default();
         for (exchange, number) in self.exchanges.iter().zip(1..) {
-            let (ours, grant) = tag.explained(&exchange.command, &exchange.random);
-            played.grants.push(grant);
+            let explained = tag.explained(&exchange.command, &exchange.random);
+            played.beside.push(&explained);
+            let ours = explained.reply;
             if ours != exchange.reply {
                 let logged = exchange.reply.clone();
                 played.differences.push(Difference {

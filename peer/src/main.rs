@@ -1,4 +1,4 @@
-//! `peer play`, `peer talks` and `peer bench`.
+//! `peer play`, `peer talks`, `peer counts` and `peer bench`.
 
 use std::io::{ErrorKind, Read, Write as _};
 use std::path::{Path, PathBuf};
@@ -6,14 +6,16 @@ use std::process::ExitCode;
 use std::time::{SystemTime, UNIX_EPOCH};
 
 use peer::bench::{rate, workloads};
-use peer::grant;
+use peer::beside::{self, Stored};
 use peer::log::{Log, Played};
+use peer::rng::Rng;
 use peer::tag::{Tag, ROOM};
-use peer::talk::{talk, Tally};
+use peer::talk::{talk, taps, Tally};
 
 const USAGE: &str = "peer play < LOG
 peer play LOG..
 peer talks [--seed N] [--exchanges E] [--each K] --into DIR
+peer counts [--seed N] [--lines L]
 peer bench";
 
 type Outcome = Result<ExitCode, String>;
@@ -33,6 +35,7 @@ fn main() -> ExitCode {
         Some((word, paths)) if word == "play" => play_stored(paths),
         Some((word, [])) if word == "bench" => bench(),
         Some((word, rest)) if word == "talks" => talks(rest),
+        Some((word, rest)) if word == "counts" => counts(rest),
         _ => Err(USAGE.to_string()),
     };
     outcome.unwrap_or_else(|what| {
@@ -62,15 +65,15 @@ fn play() -> Outcome {
         .read_to_end(&mut text)
         .map_err(|error| format!("standard input: {error}"))?;
     let played = played(&text)?;
-    for line in played.report(None) {
+    for line in played.report(&Stored::default()) {
         say(&format!("{line}\n"))?;
     }
-    let (all, differing) = (played.grants.len(), played.differences.len());
+    let (all, differing) = (played.beside.counts.len(), played.differences.len());
     say(&format!("{all} exchanges, {differing} differ\n"))?;
     verdict(differing)
 }
 
-/// Plays stored logs, each with the grants beside it, and prints what differs.
+/// Plays stored logs, each with what stands beside it, and prints what differs.
 fn play_stored(paths: &[String]) -> Outcome {
     let mut differing = 0;
     for path in paths {
@@ -84,16 +87,23 @@ fn play_stored(paths: &[String]) -> Outcome {
     verdict(differing)
 }
 
-/// What differs in a stored log, NAME.log: its replies, and its grants where there is NAME.grants.
+/// What differs in a stored log, NAME.log: its replies, its grants where there is NAME.grants, and
+/// its blocks where there is NAME.counts.
 fn stored(path: &Path) -> Result<Vec<String>, String> {
     let text = std::fs::read(path).map_err(|error| at(path, error))?;
     let played = played(&text).map_err(|what| format!("{}: {what}", path.display()))?;
-    let beside = path.with_extension("grants");
-    let grants = match std::fs::read_to_string(&beside) {
-        Err(error) if error.kind() == ErrorKind::NotFound => None,
-        read => Some(read.map_err(|error| at(&beside, error))?),
+    let stored = Stored {
+        grants: read_if_there(&path.with_extension("grants"))?,
+        counts: read_if_there(&path.with_extension("counts"))?,
     };
-    Ok(played.report(grants.as_deref()))
+    Ok(played.report(&stored))
+}
+
+fn read_if_there(path: &Path) -> Result<Option<String>, String> {
+    match std::fs::read_to_string(path) {
+        Err(error) if error.kind() == ErrorKind::NotFound => Ok(None),
+        read => read.map(Some).map_err(|error| at(path, error)),
+    }
 }
 
 /// What `peer talks` is asked for.
@@ -107,11 +117,8 @@ struct Order {
 impl Order {
     fn parse(arguments: &[String]) -> Result<Order, String> {
         let (mut seed, mut exchanges, mut each, mut into) = (clock(), 20_000, 400, None);
-        for pair in arguments.chunks(2) {
-            let [name, value] = pair else {
-                return Err(USAGE.to_string());
-            };
-            match name.as_str() {
+        for (name, value) in options(arguments)? {
+            match name {
                 "--seed" => seed = number(value)?,
                 "--exchanges" => exchanges = number(value)?,
                 "--each" => each = number(value)?,
@@ -131,6 +138,15 @@ impl Order {
     }
 }
 
+/// Options, each with its value.
+fn options(arguments: &[String]) -> Result<Vec<(&str, &str)>, String> {
+    let pairs = arguments.chunks(2).map(|pair| match pair {
+        [name, value] => Ok((name.as_str(), value.as_str())),
+        _ => Err(USAGE.to_string()),
+    });
+    pairs.collect()
+}
+
 fn number<T: std::str::FromStr>(text: &str) -> Result<T, String> {
     text.parse().map_err(|_| format!("not a number: {text}"))
 }
@@ -142,7 +158,7 @@ fn clock() -> u64 {
         .map_or(0, |since| since.as_nanos() as u64)
 }
 
-/// Writes random talks as logs, their grants beside them, and prints what happened in them.
+/// Writes random talks as logs, grants and counts beside them, and prints what happened in them.
 fn talks(arguments: &[String]) -> Outcome {
     let order = Order::parse(arguments)?;
     say(&format!("seed {}\n", order.seed))?;
@@ -151,10 +167,12 @@ fn talks(arguments: &[String]) -> Outcome {
     let (mut left, mut index) = (order.exchanges, 0);
     while left > 0 {
         let size = left.min(order.each);
-        let (log, grants) = talk(order.seed, index, size, &mut tally).ok_or("no tag")?;
+        let (log, beside) = talk(order.seed, index, size, &mut tally).ok_or("no tag")?;
         let path = order.into.join(format!("talk-{index:05}.log"));
         write(&path, log.text())?;
-        write(&path.with_extension("grants"), grant::text(&grants))?;
+        let (grants, counts) = (beside::text(&beside.grants), beside::text(&beside.counts));
+        write(&path.with_extension("grants"), grants)?;
+        write(&path.with_extension("counts"), counts)?;
         left -= size;
         index += 1;
     }
@@ -168,6 +186,27 @@ fn write(path: &Path, text: String) -> Result<(), String> {
 
 fn at(path: &Path, error: std::io::Error) -> String {
     format!("{}: {error}", path.display())
+}
+
+/// Prints fresh settings strings of file 2, each with the blocks of a tap; the seed fixes them.
+fn counts(arguments: &[String]) -> Outcome {
+    let (mut seed, mut lines) = (clock(), 400);
+    for (name, value) in options(arguments)? {
+        match name {
+            "--seed" => seed = number(value)?,
+            "--lines" => lines = number(value)?,
+            _ => return Err(USAGE.to_string()),
+        }
+    }
+    let mut rng = Rng::new(seed);
+    let mut text =
+        format!("# seed {seed}: settings strings of file 2, blocks of a mirrored read\n");
+    for _ in 0..lines {
+        text.push_str(&taps::line(&mut rng).ok_or("no tag")?);
+        text.push('\n');
+    }
+    say(&text)?;
+    Ok(ExitCode::SUCCESS)
 }
 
 /// Prints calls per second for each workload.

@@ -21,9 +21,10 @@ impl Desk {
     /// The status and the grant of a command.
     fn answers(&mut self, command: &str, status: &str, grant: &str) {
         let bytes = unhex(command).expect("hexadecimal");
-        let (reply, ours) = self.tag.explained(&bytes, &RANDOM);
-        assert!(hex(&reply).ends_with(status), "{command}: {}", hex(&reply));
-        assert_eq!(ours.to_string(), grant, "{command}");
+        let ours = self.tag.explained(&bytes, &RANDOM);
+        let reply = hex(&ours.reply);
+        assert!(reply.ends_with(status), "{command}: {reply}");
+        assert_eq!(ours.grant.to_string(), grant, "{command}");
     }
 
     /// The same for a command in a session with this key, closed in a mode.
@@ -380,8 +381,8 @@ fn iso_in_session() {
 fn talks_reach_every_answer() {
     let mut seen: BTreeMap<String, usize> = BTreeMap::new();
     for index in 0..50 {
-        let (_, grants) = talk(424, index, 400, &mut Tally::default()).expect("a talk");
-        for grant in grants {
+        let (_, beside) = talk(424, index, 400, &mut Tally::default()).expect("a talk");
+        for grant in beside.grants {
             *seen.entry(grant.to_string()).or_default() += 1;
         }
     }

@@ -12,7 +12,7 @@ long write(int file, const void *from, mainspur_size n);
 
 typedef unsigned char byte;
 
-enum { IMAGE = MAINSPUR_IMAGE_LENGTH, JOURNAL = MAINSPUR_JOURNAL, BIG = 300, TEXT = 1 << 20 };
+enum { IMAGE = MAINSPUR_IMAGE_LENGTH, JOURNAL = MAINSPUR_JOURNAL, BIG = 300, TEXT = 1 << 20, DIGITS = 24 };
 
 /* the text that is read */
 static byte text[TEXT];
@@ -35,15 +35,20 @@ static inline void print(const char *s) {
     print_bytes((const byte *)s, length_of(s));
 }
 
-static inline void print_number(unsigned long n) {
-    char digits[24];
-    int i = 23;
-    digits[i] = 0;
+/* A number in decimal, at the end of a room of DIGITS bytes. */
+static inline const char *decimal(unsigned long n, char *room) {
+    int i = DIGITS - 1;
+    room[i] = 0;
     do {
-        digits[--i] = (char)('0' + n % 10);
+        room[--i] = (char)('0' + n % 10);
         n /= 10;
     } while (n);
-    print(digits + i);
+    return room + i;
+}
+
+static inline void print_number(unsigned long n) {
+    char room[DIGITS];
+    print(decimal(n, room));
 }
 
 static inline int same(const byte *a, const byte *b, mainspur_size n) {
@@ -64,6 +69,11 @@ static inline void copy(byte *to, const byte *from, mainspur_size n) {
 
 static inline void fill(byte *to, byte b, mainspur_size n) {
     for (mainspur_size i = 0; i < n; i++) to[i] = b;
+}
+
+/* The AES blocks that a call computed, as its journal says: bytes 2 and 3, low byte first. */
+static inline unsigned blocks_in(const byte *journal) {
+    return journal[2] + 256u * journal[3];
 }
 
 /* The value of a hexadecimal digit, of either case; -1 for another character. */

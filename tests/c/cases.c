@@ -5,6 +5,7 @@
 #include "cases.h"
 #include "kinds/settings.h"
 #include "kinds/exchanges.h"
+#include "kinds/counts.h"
 
 typedef struct {
     const char *name;
@@ -15,6 +16,7 @@ typedef struct {
 static const Kind kinds[] = {
     {"settings", 0, settings_line},
     {"exchanges", exchanges_begin, exchanges_line},
+    {"counts", 0, counts_line},
 };
 
 static unsigned long cases;

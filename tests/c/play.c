@@ -1,10 +1,13 @@
-/* play [GRANTS] < LOG: plays a log through the image, with mainspur.h alone: a UID, then command, reply and random bytes, a line of
- * hexadecimal each, on standard input. GRANTS is a file with a line for each exchange: why it was granted (02, request 5), in words.
+/* play [GRANTS [COUNTS]] < LOG: plays a log through the image, with mainspur.h alone: a UID, then command, reply and random bytes, a line
+ * of hexadecimal each, on standard input. GRANTS is a file with a line for each exchange: why it was granted (02, request 5), in words;
+ * COUNTS has the AES blocks that it computed (02, request 10). '-' is no such file.
  * Before the first exchange and after the last it tries every refusal, and what image, room and journal hold then; before the log it
  * judges stored lengths and kept padding, and plays part two on images with a counter in the pending part. Prints what
  * differs, and last 'N exchanges, M differ'; the status is 1 where something differs. */
 #include "border.h"
+#include "beside.h"
 #include "grants.h"
+#include "counts.h"
 
 static mainspur_size at;
 
@@ -226,7 +229,7 @@ static void part_two(byte first) {
     expect(same(image + 627, first ? opened : kept, 6), first ? "TI and CmdCtr after 71" : "TI and CmdCtr after 77");
 }
 
-/* One exchange of the log, and its grant. */
+/* One exchange of the log, its grant and its count. */
 static int exchange_differs(byte *image, const byte *command, long c, const byte *reply, long r, const byte *random, long k) {
     byte room[BIG], journal[JOURNAL], blank[BIG];
     fill(room, 0xA5, BIG);
@@ -234,8 +237,8 @@ static int exchange_differs(byte *image, const byte *command, long c, const byte
     fill(blank, 0xA5, BIG);
     mainspur_size got = mainspur_call(image, IMAGE, command, (mainspur_size)c, random, (mainspur_size)k, room, BIG, journal, JOURNAL);
     int alike = got == (mainspur_size)r && same(room, reply, got) && same(room + got, blank + got, BIG - got);
-    int granted = next_grant(journal);
-    return !alike || !granted || !all_zero(journal + 2, JOURNAL - 2);
+    int granted = next_grant(journal), counted = next_count(journal);
+    return !alike || !granted || !counted || !all_zero(journal + 4, JOURNAL - 4);
 }
 
 static void before_the_log(void) {
@@ -252,7 +255,7 @@ int main(int count, char **words) {
     byte uid[16], image[IMAGE], command[BIG], reply[BIG], random[BIG];
     unsigned long exchanges = 0, wrong = 0;
     long n;
-    int whole = read_text(0) && (count < 2 || read_grants(words[1]));
+    int whole = read_text(0) && (count < 2 || read_beside(&grants, words[1])) && (count < 3 || read_beside(&counts, words[2]));
     before_the_log();
     n = next_line(uid, sizeof uid);
     expect(n >= 0 && mainspur_fresh(uid, (mainspur_size)n, image, IMAGE) == 0, "the fresh tag");
@@ -269,7 +272,8 @@ int main(int count, char **words) {
         print("\n");
     }
     expect(at >= text_length && whole, "the log was not read to its end");
-    expect(no_more_grants(), "a grant for which there is no exchange");
+    expect(no_more(&grants), "a grant for which there is no exchange");
+    expect(no_more(&counts), "a count for which there is no exchange");
     call_refusals(image);
     print_number(exchanges);
     print(" exchanges, ");

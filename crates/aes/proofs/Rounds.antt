@@ -7,7 +7,7 @@ use native.Mathlib.Omega.{arith}
 use Rattle.sbox.specs.Tables.{sbox, invSbox}
 use Rattle.sbox.specs.Words.{mixingTable, unmixingTable}
 use Rattle.words.specs.Words.{blockOf, wordsOf}
-use Rattle.aes.specs.Block.{roundKey, substitute, shiftRows, invShiftRows, mixColumns, invMixColumns, addRoundKey, rounds, roundsBack, cipher, invCipher}
+use Rattle.aes.specs.Block.{roundKey, substitute, shiftRows, invShiftRows, mixColumns, invMixColumns, addRoundKey, rounds, roundsBack, cipher, invCipher, ciphered, blockCost}
 use Rattle.aes.specs.ByTables.{withKey, mixedBy, shiftedBy, roundsBy, cipherBy, Turns, Enciphers, unshiftedBy, unmixedBy, backBy, invCipherBy, TurnsBack, Deciphers}
 use Rattle.aes.proofs.Words.{mixed-table, shifted-table, unshifted-table, unmixed-table}
 
@@ -60,7 +60,7 @@ forth-more t w x₀ x r i h c =
 
 pub enciphers : (t : List ℕ) (w : List (List ℕ)) (s q x₀ x z y r : List ℕ) (i : ℕ) → i ≡ 9 → (q ≡ wordsOf s) × (blockOf q ≡ s)
     → (x₀ ≡ withKey q (roundKey w 0)) × (blockOf x₀ ≡ addRoundKey (blockOf q) (roundKey w 0)) → Forth t w x₀ x i → z ≡ shiftedBy t x
-    → (y ≡ withKey z (roundKey w 10)) × (blockOf y ≡ addRoundKey (blockOf z) (roundKey w 10)) → r ≡ blockOf y → Enciphers t w s r
+    → (y ≡ withKey z (roundKey w 10)) × (blockOf y ≡ addRoundKey (blockOf z) (roundKey w 10)) → r ≡ blockOf y → Enciphers t w s (ciphered r blockCost)
 unfolding cipherBy cipher
 enciphers t w s q x₀ x z y r i n a b h d f g =
     let first = roundKey w 0 in
@@ -71,6 +71,7 @@ enciphers t w s q x₀ x z y r i n a b h d f g =
       standard = λ e.
           g ∙ f .1 ∙ ap (λ m. addRoundKey m last) (ap blockOf d ∙ shifted-table t x e
           ∙ ap (λ m. shiftRows (substitute sbox m)) (h .block e ∙ ap₂ (rounds w) n (b .1 ∙ ap (λ m. addRoundKey m first) (a .1))));
+      cost = refl;
     }
 
 -- ---- i rounds before the end of the way back
@@ -99,7 +100,7 @@ by-none v u w x = refl
 
 pub deciphers : (v u : List ℕ) (w : List (List ℕ)) (s q x₀ x z y r : List ℕ) (i : ℕ) → 0 ≡ i → (q ≡ wordsOf s) × (blockOf q ≡ s)
     → (x₀ ≡ withKey q (roundKey w 10)) × (blockOf x₀ ≡ addRoundKey (blockOf q) (roundKey w 10)) → Back v u w x₀ x i → z ≡ unshiftedBy v x
-    → (y ≡ withKey z (roundKey w 0)) × (blockOf y ≡ addRoundKey (blockOf z) (roundKey w 0)) → r ≡ blockOf y → Deciphers v u w s r
+    → (y ≡ withKey z (roundKey w 0)) × (blockOf y ≡ addRoundKey (blockOf z) (roundKey w 0)) → r ≡ blockOf y → Deciphers v u w s (ciphered r blockCost)
 unfolding invCipherBy invCipher
 deciphers v u w s q x₀ x z y r i n a b h d f g =
     let first = roundKey w 0 in
@@ -111,4 +112,5 @@ deciphers v u w s q x₀ x z y r i n a b h d f g =
           g ∙ f .1 ∙ ap (λ m. addRoundKey m first) (ap blockOf d ∙ unshifted-table v x e
           ∙ ap (λ m. substitute invSbox (invShiftRows m)) (sym (back-none w (blockOf x)) ∙ ap (λ m. roundsBack w m (blockOf x)) n
           ∙ h .block e e′ ∙ ap (roundsBack w 9) (b .1 ∙ ap (λ m. addRoundKey m last) (a .1))));
+      cost = refl;
     }

@@ -8,6 +8,7 @@ use Rattle.base.specs.Bytes.{byteAt, AllBytes, tab}
 use Rattle.sbox.specs.Field.{_⊕_}
 use Rattle.sbox.specs.Columns.{mixed, unmixed}
 use Rattle.sbox.specs.Tables.{sbox, invSbox}
+use Rattle.aes.specs.declared.Ciphered.{Ciphered}
 
 -- 16 bytes
 pub record IsBlock (s : List ℕ) : Type 0 where
@@ -67,3 +68,11 @@ roundsBack w (suc n) s = roundsBack w n (invMixColumns (addRoundKey (substitute 
 -- 5.3: the last key, nine rounds back, and the first one, which unmixes no columns
 unfoldable pub invCipher : List (List ℕ) → List ℕ → List ℕ
 invCipher w s = addRoundKey (substitute invSbox (invShiftRows (roundsBack w 9 (addRoundKey s (roundKey w 10))))) (roundKey w 0)
+
+-- ---- 02, request 10: the cipher work is counted in blocks, key schedules not counted. A block, either way, is one
+abbrev pub blockCost : ℕ
+blockCost = 1
+
+-- 16 bytes, and how many blocks were computed for them
+abbrev pub ciphered : List ℕ → ℕ → Ciphered
+ciphered b n = record { bytes = b; cost = n }

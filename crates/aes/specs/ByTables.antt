@@ -8,7 +8,8 @@ use Rattle.sbox.specs.Field.{_⊕_}
 use Rattle.sbox.specs.Tables.{invSbox}
 use Rattle.sbox.specs.Words.{packed, mixingTable, unmixingTable}
 use Rattle.words.specs.Words.{blockOf, wordsOf, columnOf, pickedOf}
-use Rattle.aes.specs.Block.{roundKey, addRoundKey, cipher, invCipher}
+use Rattle.aes.specs.Block.{roundKey, addRoundKey, cipher, invCipher, blockCost}
+use Rattle.aes.specs.declared.Ciphered.{Ciphered}
 
 -- four words and a round key, summed
 unfoldable pub withKey : List ℕ → List ℕ → List ℕ
@@ -45,14 +46,15 @@ roundsBy t w (suc n) x = withKey (mixedBy t (roundsBy t w n x)) (roundKey w (suc
 unfoldable pub cipherBy : List ℕ → List (List ℕ) → List ℕ → List ℕ
 cipherBy t w s = blockOf (withKey (shiftedBy t (roundsBy t w 9 (withKey (wordsOf s) (roundKey w 0)))) (roundKey w 10))
 
--- what a round and the whole give, and that it is the standard's
+-- what a round and the whole give, that it is the standard's, and that it is one block
 pub record Turns (t s k r : List ℕ) : Type 0 where
   pub by : r ≡ withKey (mixedBy t s) k
   pub key : blockOf r ≡ addRoundKey (blockOf (mixedBy t s)) k
 
-pub record Enciphers (t : List ℕ) (w : List (List ℕ)) (s r : List ℕ) : Type 0 where
-  pub by : r ≡ cipherBy t w s
-  pub standard : t ≡ mixingTable → r ≡ cipher w s
+pub record Enciphers (t : List ℕ) (w : List (List ℕ)) (s : List ℕ) (r : Ciphered) : Type 0 where
+  pub by : r .bytes ≡ cipherBy t w s
+  pub standard : t ≡ mixingTable → r .bytes ≡ cipher w s
+  pub cost : r .cost ≡ blockCost
 
 -- ---- and back, by a table of bytes and one of words
 unfoldable pub unshiftedBy : List ℕ → List ℕ → List ℕ
@@ -77,6 +79,7 @@ pub record TurnsBack (v u s k r : List ℕ) : Type 0 where
   pub by : r ≡ unmixedBy u (withKey (unshiftedBy v s) k)
   pub key : blockOf (withKey (unshiftedBy v s) k) ≡ addRoundKey (blockOf (unshiftedBy v s)) k
 
-pub record Deciphers (v u : List ℕ) (w : List (List ℕ)) (s r : List ℕ) : Type 0 where
-  pub by : r ≡ invCipherBy v u w s
-  pub standard : v ≡ invSbox → u ≡ unmixingTable → r ≡ invCipher w s
+pub record Deciphers (v u : List ℕ) (w : List (List ℕ)) (s : List ℕ) (r : Ciphered) : Type 0 where
+  pub by : r .bytes ≡ invCipherBy v u w s
+  pub standard : v ≡ invSbox → u ≡ unmixingTable → r .bytes ≡ invCipher w s
+  pub cost : r .cost ≡ blockCost

@@ -1,8 +1,9 @@
 // The block, both ways (FIPS 197, sections 5.1 and 5.3), over `words`. The tables are loaded once at an entry and lent on.
 ghost use mathlib.Core.Path.{_≡_};
-ghost use Rattle.aes.specs.Block.{xorBlock, addRoundKey, cipher, invCipher};
+ghost use Rattle.aes.specs.Block.{xorBlock, addRoundKey, cipher, invCipher, ciphered, blockCost};
 ghost use Rattle.aes.specs.ByTables.{withKey, mixedBy, subBy, subColumn, shiftedBy, Turns, Enciphers, unshiftedBy, unmixedBy, TurnsBack, Deciphers};
 ghost use Rattle.words.specs.Words.{blockOf};
+use crate::Ciphered;
 
 // Two blocks summed (5.1.4).
 pub fn xor_block(a: [u8; 16], b: [u8; 16]) -> [u8; 16]
@@ -118,7 +119,7 @@ fn round_back(v: &[u8; 256], u: &[u32; 256], s: [u32; 4], k: [u8; 16]) -> [u32; 
 }
 
 // The cipher on one block, by a lent table of words; with `sbox::mixing` it is the standard's.
-pub fn encrypt_with(t: &[u32; 256], w: &[[u8; 16]; 11], s: [u8; 16]) -> [u8; 16]
+pub fn encrypt_with(t: &[u32; 256], w: &[[u8; 16]; 11], s: [u8; 16]) -> Ciphered
     ensures { λ r. ⌜ Enciphers (now (t .entry)) (now (w .entry)) s r ⌝ }
 {
     let first = w[0];
@@ -131,19 +132,22 @@ pub fn encrypt_with(t: &[u32; 256], w: &[[u8; 16]; 11], s: [u8; 16]) -> [u8; 16]
         i += 1;
     }
     let last = w[10];
-    words::bytes_of(with_key(sub_shift(t, x), last))
+    Ciphered {
+        bytes: words::bytes_of(with_key(sub_shift(t, x), last)),
+        cost: 1,
+    }
 }
 
 // The cipher on one block.
-pub fn encrypt(w: &[[u8; 16]; 11], s: [u8; 16]) -> [u8; 16]
-    ensures { λ r. ⌜ r ≡ cipher (now (w .entry)) s ⌝ }
+pub fn encrypt(w: &[[u8; 16]; 11], s: [u8; 16]) -> Ciphered
+    ensures { λ r. ⌜ r ≡ ciphered (cipher (now (w .entry)) s) blockCost ⌝ }
 {
     let t = sbox::mixing();
     encrypt_with(&t, w, s)
 }
 
 // The inverse cipher on one block, by lent tables; with `sbox::backward` and `sbox::unmixing` it is the standard's.
-pub fn decrypt_with(v: &[u8; 256], u: &[u32; 256], w: &[[u8; 16]; 11], s: [u8; 16]) -> [u8; 16]
+pub fn decrypt_with(v: &[u8; 256], u: &[u32; 256], w: &[[u8; 16]; 11], s: [u8; 16]) -> Ciphered
     ensures { λ r. ⌜ Deciphers (now (v .entry)) (now (u .entry)) (now (w .entry)) s r ⌝ }
 {
     let last = w[10];
@@ -156,12 +160,15 @@ pub fn decrypt_with(v: &[u8; 256], u: &[u32; 256], w: &[[u8; 16]; 11], s: [u8; 1
         i -= 1;
     }
     let first = w[0];
-    words::bytes_of(with_key(shift_sub(v, x), first))
+    Ciphered {
+        bytes: words::bytes_of(with_key(shift_sub(v, x), first)),
+        cost: 1,
+    }
 }
 
 // The inverse cipher on one block.
-pub fn decrypt(w: &[[u8; 16]; 11], s: [u8; 16]) -> [u8; 16]
-    ensures { λ r. ⌜ r ≡ invCipher (now (w .entry)) s ⌝ }
+pub fn decrypt(w: &[[u8; 16]; 11], s: [u8; 16]) -> Ciphered
+    ensures { λ r. ⌜ r ≡ ciphered (invCipher (now (w .entry)) s) blockCost ⌝ }
 {
     let v = sbox::backward();
     let u = sbox::unmixing();

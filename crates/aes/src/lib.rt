@@ -7,3 +7,9 @@ pub use block::decrypt_with;
 pub use block::encrypt;
 pub use block::encrypt_with;
 pub use block::xor_block;
+
+// 16 bytes, and how many blocks were computed for them.
+pub struct Ciphered {
+    pub bytes: [u8; 16],
+    pub cost: usize,
+}

@@ -41,9 +41,11 @@ fn block(w: &[[u8; 16]; 11], back: bool, s: &[u8]) -> [u8; 16] {
     let mut x = [0u8; 16];
     base::put(s, &mut x, 0);
     if back {
-        return aes::decrypt(w, x);
+        let d = aes::decrypt(w, x);
+        return d.bytes;
     }
-    aes::encrypt(w, x)
+    let e = aes::encrypt(w, x);
+    e.bytes
 }
 
 // Every whole block by itself.
@@ -140,7 +142,8 @@ fn tag_is_not(tag: [u8; 16], line: &[u8]) -> bool {
 
 // The tag of a message is the line's, or, where it must not be, is not.
 fn tag_agrees(w: &[[u8; 16]; 11], line: &[u8], message: &[u8], good: bool) -> bool {
-    let tag = cmac::cmac_of(w, message);
+    let made = cmac::cmac_of(w, message);
+    let tag = made.bytes;
     if good {
         return same(line, 4, &tag);
     }

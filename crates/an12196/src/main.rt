@@ -106,7 +106,8 @@ fn first_parts(t: Tally) -> Tally {
     let got = authentication::check_part_two(k, mutual::RND_B, &mutual::PART_TWO);
     let proof = got.proof;
     let a = got.a;
-    let t1 = compare_block(t, b"E(K0; RndB)", one, mutual::PART_ONE);
+    let reply = one.bytes;
+    let t1 = compare_block(t, b"E(K0; RndB)", reply, mutual::PART_ONE);
     let t2 = count(t1, b"check of part two", is_right(proof));
     compare_block(t2, b"RndA", a, mutual::RND_A)
 }
@@ -115,7 +116,8 @@ fn first_parts(t: Tally) -> Tally {
 fn last_part(t: Tally) -> Tally {
     let k = [0u8; 16];
     let reply = authentication::first_reply(k, mutual::TI, mutual::RND_A, [0u8; 6]);
-    let t1 = compare(t, b"reply of part two", &reply, &mutual::PART_TWO_REPLY);
+    let bytes = reply.bytes;
+    let t1 = compare(t, b"reply of part two", &bytes, &mutual::PART_TWO_REPLY);
     let keys = session_keys::session_keys(k, mutual::RND_A, mutual::RND_B);
     let enc = keys.enc;
     let mac = keys.mac;
@@ -150,7 +152,8 @@ fn open_changed(s: Session, cmd: u8, x: &[u8], room: &mut [u8]) -> Opened {
     bad[1] = bad[1] ^ 1;
     if x.len() <= 64 {
         let e = x.len();
-        return opening::open(s, Mode::Full, cmd, &bad[..e], 1, true, room);
+        let o = opening::open(s, Mode::Full, cmd, &bad[..e], 1, true, room);
+        return o.opened;
     }
     Opened::TooLong
 }
@@ -159,7 +162,8 @@ fn open_changed(s: Session, cmd: u8, x: &[u8], room: &mut [u8]) -> Opened {
 fn command(t: Tally, name: &[u8], s: Session, cmd: u8, x: &[u8], plain: &[u8]) -> Tally {
     let mut room = [0u8; 256];
     let o = opening::open(s, Mode::Full, cmd, x, 1, true, &mut room);
-    let t1 = count(t, name, gives(o, &room, plain));
+    let opened = o.opened;
+    let t1 = count(t, name, gives(opened, &room, plain));
     let p = open_changed(s, cmd, x, &mut room);
     count(t1, name, is_wrong_mac(p))
 }
@@ -167,7 +171,9 @@ fn command(t: Tally, name: &[u8], s: Session, cmd: u8, x: &[u8], plain: &[u8]) -
 // A reply with no data in Full is its MAC alone.
 fn reply(t: Tally, name: &[u8], s: Session, theirs: &[u8]) -> Tally {
     let mut room = [0u8; 256];
-    match closing::close(s, Mode::Full, 0, &mut room, 0) {
+    let c = closing::close(s, Mode::Full, 0, &mut room, 0);
+    let closed = c.closed;
+    match closed {
         Closed::Reply(n) => {
             if n <= 256 {
                 return compare(t, name, &room[..n], theirs);
@@ -180,7 +186,8 @@ fn reply(t: Tally, name: &[u8], s: Session, theirs: &[u8]) -> Tally {
 }
 
 fn change_file_settings(t: Tally) -> Tally {
-    let iv = messaging::command_iv(session(1));
+    let v = messaging::command_iv(session(1));
+    let iv = v.bytes;
     let t1 = compare(t, b"IV of the command", &iv, &file_settings::SETTINGS_IV);
     let t2 = command(
         t1,
@@ -245,7 +252,8 @@ fn tap_one() -> Tap {
 }
 
 fn first_picc_data(t: Tally) -> Tally {
-    let picc = sdm::picc_data([0u8; 16], tap_one(), kept(&tap_values::PADDING_ONE));
+    let made = sdm::picc_data([0u8; 16], tap_one(), kept(&tap_values::PADDING_ONE));
+    let picc = made.bytes;
     compare(
         t,
         b"PICCData of the first tap",
@@ -255,9 +263,10 @@ fn first_picc_data(t: Tally) -> Tally {
 }
 
 fn first_mac(t: Tally) -> Tally {
-    let keys = sdm::tap_keys([0u8; 16], tap_one());
-    let key = keys.mac;
-    let mac = sdm::tap_mac(key, &[0u8; 0]);
+    let made = sdm::tap_mac_key([0u8; 16], tap_one());
+    let key = made.bytes;
+    let code = sdm::tap_mac(key, &[0u8; 0]);
+    let mac = code.bytes;
     let t1 = compare(t, b"SesSDMFileReadMACKey", &key, &tap_values::MAC_KEY_ONE);
     compare(t1, b"SDMMAC of the first tap", &mac, &tap_values::MAC_ONE)
 }
@@ -272,7 +281,8 @@ fn tap_two() -> Tap {
 }
 
 fn second_picc_data(t: Tally) -> Tally {
-    let picc = sdm::picc_data([0u8; 16], tap_two(), kept(&tap_values::PADDING_TWO));
+    let made = sdm::picc_data([0u8; 16], tap_two(), kept(&tap_values::PADDING_TWO));
+    let picc = made.bytes;
     compare(
         t,
         b"PICCData of the second tap",
@@ -282,18 +292,19 @@ fn second_picc_data(t: Tally) -> Tally {
 }
 
 fn second_file_data(t: Tally) -> Tally {
-    let keys = sdm::tap_keys([0u8; 16], tap_two());
-    let enc = keys.enc;
+    let made = sdm::tap_enc_key([0u8; 16], tap_two());
+    let enc = made.bytes;
     let mut text = tap_values::TEXT_TWO;
-    let whole = sdm::tap_encrypt(enc, 8, &mut text);
-    let t1 = count(t, b"length of SDMENCFileData", whole);
+    let hidden = sdm::tap_encrypt(enc, 8, &mut text);
+    let t1 = count(t, b"length of SDMENCFileData", hidden.whole);
     compare(t1, b"SDMENCFileData", &text, &tap_values::HIDDEN_TWO)
 }
 
 fn second_mac(t: Tally) -> Tally {
-    let keys = sdm::tap_keys([0u8; 16], tap_two());
-    let key = keys.mac;
-    let mac = sdm::tap_mac(key, &tap_values::INPUT_TWO);
+    let made = sdm::tap_mac_key([0u8; 16], tap_two());
+    let key = made.bytes;
+    let code = sdm::tap_mac(key, &tap_values::INPUT_TWO);
+    let mac = code.bytes;
     compare(t, b"SDMMAC of the second tap", &mac, &tap_values::MAC_TWO)
 }
 

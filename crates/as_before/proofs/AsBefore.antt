@@ -30,9 +30,9 @@ use Rattle.access.specs.declared.Grant.the-variants.{ByKey, ByTap, Free, Unaske
 use Rattle.access.specs.declared.Decision.{Decision}
 use Rattle.access.specs.Access.{conditionOf, firstOf, allNever, granted, readGrant, writeGrant, changeGrant, counterGrant, grantFor}
 use Rattle.access.specs.Access.{fileMode, underKey, modeFor, reads, decided, grantStatus}
-use Rattle.replies.specs.Answer.{Answer, refusal}
+use Rattle.replies.specs.Answer.{Answer, costing, refusal}
 use Rattle.contents.specs.Contents.{wrappedPart, readData}
-use Rattle.wrapped.specs.Wrapped.{own, openingOf, onOpening, wrapped}
+use Rattle.wrapped.specs.Wrapped.{own, openingOf, openingCostOf, onOpening, wrapped}
 use Rattle.binaries.specs.Binaries.{isoPart, readBinary, binary}
 use Rattle.tag.specs.Way.{usedUp, fromStep7, onGrant, fromStep6, commanded, onOrder, answered}
 use Rattle.as_before.specs.Before.{Was, byKey, byTap, free, unasked, never, denied, grantedWas, readWas, writeWas, changeWas, counterWas, grantWas}
@@ -210,7 +210,9 @@ module _ (t : Tag) (k : Command) (r : Reading) (x random : List ℕ) (g a : Gran
 
   wrapped-alike : wrapped t k r d x random ≡ wrapped t k r e x random
   unfolding wrapped
-  wrapped-alike = ap (pick (ltb 255 (length x)) (refusal t lengthError)) (opening-alike (openingOf t k x m))
+  wrapped-alike =
+      let n = openingCostOf t k x m in
+      ap (λ (w : Answer). pick (ltb 255 (length x)) (refusal t lengthError) (costing n w)) (opening-alike (openingOf t k x m))
 
   binary-alike : binary t k r d x random ≡ binary t k r e x random
   unfolding binary readBinary isoPart

@@ -31,6 +31,6 @@ pub record SameDecision (n : Name) (l : Live) (h : Head) : Type 0 where
 abbrev pub SameDecisions : Type 0
 SameDecisions = (n : Name) (l : Live) (h : Head) → SameDecision n l h
 
--- status, reply and next state of every command, in every state
+-- status, reply and next state of every command, in every state, and what it costs (request 10)
 abbrev pub SameAnswers : Type 0
 SameAnswers = (g : Grant) (t : Tag) (c random : List ℕ) → answered t c random ≡ answeredWas g t c random

@@ -7,13 +7,13 @@ use lib.ListN.{length, take, drop, replicate}
 use Rattle.base.specs.Decide.{pick}
 use Rattle.base.specs.Bytes.{byteAt}
 use Rattle.base.specs.Status.{noSuchKey, lengthError, permissionDenied, parameterError, additionalFrame}
-use Rattle.authentication.specs.Authentication.{enciphered}
+use Rattle.authentication.specs.Authentication.{enciphered, partOneCost}
 use Rattle.order.specs.Order.{keyStatus}
 use Rattle.state.specs.declared.Live.{Live}
 use Rattle.state.specs.declared.Pending.{Pending}
 use Rattle.state.specs.declared.Tag.{Tag}
 use Rattle.state.specs.State.{keyIn, noLive, talking}
-use Rattle.replies.specs.Answer.{Answer, given, refusal}
+use Rattle.replies.specs.Answer.{Answer, givenFor, refusal}
 
 -- 71 behind its lengths: key byte; PCDcap2.1 bit 1 set 919D; PICC level 9140
 unfoldable pub valuesStatus : List ℕ → Bool → ℕ
@@ -35,7 +35,7 @@ nextStatus x live = pick (eqb (length x) 1) (pick live (keyStatus (byteAt x 0)) 
 
 -- part one accepted gives E(Kx; RndB), 91AF, and ends the old session
 unfoldable pub begun : Tag → Pending → Answer
-begun t p = given (talking t noLive p) additionalFrame (enciphered (keyIn (t .secrets .keys) (p .key)) (p .«rnd_b»))
+begun t p = givenFor partOneCost (talking t noLive p) additionalFrame (enciphered (keyIn (t .secrets .keys) (p .key)) (p .«rnd_b»))
 
 -- PCDcap2 padded with zeros to six
 unfoldable pub capOf : List ℕ → List ℕ

@@ -82,7 +82,13 @@ fn begin(tag: Tag, p: Pending) -> Done
     let keys = tag.secrets.keys;
     let b = p.rnd_b;
     let e = authentication::part_one(state::key_of(keys, p.key), b);
-    replies::give_text(state::talking(tag, state::no_live(), p), 0x91AF, &e)
+    let text = e.bytes;
+    replies::give_text(
+        state::talking(tag, state::no_live(), p),
+        0x91AF,
+        &text,
+        e.cost,
+    )
 }
 
 // Part one of 71.

@@ -6,11 +6,12 @@ use lib.ListN.{length, take, drop, replicate}
 use Rattle.base.specs.Decide.{pick}
 use Rattle.base.specs.Bytes.{same}
 use Rattle.base.specs.Status.{operationOk, lengthError, authenticationError}
-use Rattle.cbc.specs.Cbc.{cbcOut, cbcBack}
+use Rattle.cbc.specs.Cbc.{cbcOut, cbcBack, cbcCost}
 use Rattle.key_expansion.specs.Keys.{keyExpansion}
 use Rattle.authentication.specs.declared.Proof.{Proof}
 use Rattle.authentication.specs.declared.Proof.the-variants.{Right, NotThirtyTwo, WrongRndB}
 use Rattle.authentication.specs.declared.PartTwo.{PartTwo}
+use Rattle.authentication.specs.declared.Pair.{Pair}
 
 abbrev pub zeros : ℕ → List ℕ
 zeros n = replicate n 0
@@ -40,8 +41,12 @@ aOf d Right = take 16 d
 aOf d NotThirtyTwo = zeros 16
 aOf d WrongRndB = zeros 16
 
+-- 02, request 10: what the check costs: both blocks, where there are two
+unfoldable pub proofCost : List ℕ → ℕ
+proofCost x = pick (eqb (length x) 32) (cbcCost 32) 0
+
 unfoldable pub partTwo : List ℕ → List ℕ → List ℕ → PartTwo
-partTwo kx b x = record { proof = proofOf kx b x; a = aOf (deciphered kx x) (proofOf kx b x) }
+partTwo kx b x = record { proof = proofOf kx b x; a = aOf (deciphered kx x) (proofOf kx b x); cost = proofCost x }
 
 -- 01's status for each answer
 unfoldable pub proofStatus : Proof → ℕ
@@ -55,3 +60,17 @@ firstReply kx ti a cap = enciphered kx (ti ++ turned a ++ zeros 6 ++ cap)
 
 unfoldable pub nextReply : List ℕ → List ℕ → List ℕ
 nextReply kx a = enciphered kx (turned a)
+
+-- ---- 02, request 10: what they cost. Part one is RndB, one block; the replies of part two are two blocks for 71 and one for 77
+abbrev pub partOneCost : ℕ
+partOneCost = cbcCost 16
+
+abbrev pub firstReplyCost : ℕ
+firstReplyCost = cbcCost 32
+
+abbrev pub nextReplyCost : ℕ
+nextReplyCost = cbcCost 16
+
+-- 32 bytes, and how many blocks were computed for them
+abbrev pub paired : List ℕ → ℕ → Pair
+paired b n = record { bytes = b; cost = n }

@@ -1,7 +1,10 @@
 // The two parts of an authentication (9.1.5, 9.1.6, 10.4.1, 10.4.2).
 ghost use mathlib.Core.Path.{_≡_};
 ghost use lib.ListN.{length};
-ghost use Rattle.authentication.specs.Authentication.{enciphered, deciphered, turned, proofOf, partTwo, firstReply, nextReply};
+ghost use Rattle.authentication.specs.Authentication.{enciphered, deciphered, turned, partTwo, firstReply, nextReply, partOneCost, firstReplyCost, nextReplyCost, paired};
+ghost use Rattle.aes.specs.Block.{ciphered};
+ghost use Rattle.cbc.specs.Cbc.{cbcCost};
+use aes::Ciphered;
 
 // What the check of part two came to.
 pub enum Proof {
@@ -12,30 +15,43 @@ pub enum Proof {
     WrongRndB,
 }
 
-// That, and RndA where it is right.
+// That, RndA where it is right, and how many blocks were computed.
 pub struct PartTwo {
     pub proof: Proof,
     pub a: [u8; 16],
+    pub cost: usize,
+}
+
+// Two blocks, and how many were computed for them.
+pub struct Pair {
+    pub bytes: [u8; 32],
+    pub cost: usize,
 }
 
 // E(Kx; one block).
-fn encipher_one(kx: [u8; 16], x: [u8; 16]) -> [u8; 16]
-    ensures { λ r. ⌜ r ≡ enciphered kx x ⌝ }
+fn encipher_one(kx: [u8; 16], x: [u8; 16]) -> Ciphered
+    ensures { λ r. ⌜ r ≡ ciphered (enciphered kx x) (cbcCost 16) ⌝ }
 {
     let w = key_expansion::expand(kx);
     let mut b = x;
-    cbc::cbc_encrypt(&w, [0u8; 16], &mut b);
-    b
+    let c = cbc::cbc_encrypt(&w, [0u8; 16], &mut b);
+    Ciphered {
+        bytes: b,
+        cost: c.cost,
+    }
 }
 
 // E(Kx; two blocks).
-fn encipher_two(kx: [u8; 16], x: [u8; 32]) -> [u8; 32]
-    ensures { λ r. ⌜ r ≡ enciphered kx x ⌝ }
+fn encipher_two(kx: [u8; 16], x: [u8; 32]) -> Pair
+    ensures { λ r. ⌜ r ≡ paired (enciphered kx x) (cbcCost 32) ⌝ }
 {
     let w = key_expansion::expand(kx);
     let mut b = x;
-    cbc::cbc_encrypt(&w, [0u8; 16], &mut b);
-    b
+    let c = cbc::cbc_encrypt(&w, [0u8; 16], &mut b);
+    Pair {
+        bytes: b,
+        cost: c.cost,
+    }
 }
 
 // Turned to the left by one byte.
@@ -49,22 +65,25 @@ fn turn(x: [u8; 16]) -> [u8; 16]
 }
 
 // The reply of part one: E(Kx; RndB).
-pub fn part_one(kx: [u8; 16], b: [u8; 16]) -> [u8; 16]
-    ensures { λ r. ⌜ r ≡ enciphered kx b ⌝ }
+pub fn part_one(kx: [u8; 16], b: [u8; 16]) -> Ciphered
+    ensures { λ r. ⌜ r ≡ ciphered (enciphered kx b) partOneCost ⌝ }
 {
     encipher_one(kx, b)
 }
 
 // RndA and RndB' of a part two of 32 bytes.
-fn decipher(kx: [u8; 16], x: &[u8]) -> [u8; 32]
+fn decipher(kx: [u8; 16], x: &[u8]) -> Pair
     requires { ⌜ length (now x) ≡ 32 ⌝ }
-    ensures { λ r. ⌜ r ≡ deciphered kx (now (x .entry)) ⌝ }
+    ensures { λ r. ⌜ r ≡ paired (deciphered kx (now (x .entry))) (cbcCost 32) ⌝ }
 {
     let w = key_expansion::expand(kx);
     let mut b = [0u8; 32];
     base::put(x, &mut b, 0);
-    cbc::cbc_decrypt(&w, [0u8; 16], &mut b);
-    b
+    let c = cbc::cbc_decrypt(&w, [0u8; 16], &mut b);
+    Pair {
+        bytes: b,
+        cost: c.cost,
+    }
 }
 
 // Checks part two.
@@ -76,26 +95,31 @@ pub fn check_part_two(kx: [u8; 16], b: [u8; 16], x: &[u8]) -> PartTwo
         return PartTwo {
             proof: Proof::NotThirtyTwo,
             a,
+            cost: 0,
         };
     }
-    let d = decipher(kx, x);
+    let p = decipher(kx, x);
+    let cost = p.cost;
+    let d = p.bytes;
     let t = turn(b);
     if base::alike(&d[16..], &t) {
         base::put(&d[..16], &mut a, 0);
         return PartTwo {
             proof: Proof::Right,
             a,
+            cost,
         };
     }
     PartTwo {
         proof: Proof::WrongRndB,
         a,
+        cost,
     }
 }
 
 // The reply of part two of 71: TI, RndA', PDcap2 and PCDcap2.
-pub fn first_reply(kx: [u8; 16], ti: [u8; 4], a: [u8; 16], cap: [u8; 6]) -> [u8; 32]
-    ensures { λ r. ⌜ r ≡ firstReply kx ti a cap ⌝ }
+pub fn first_reply(kx: [u8; 16], ti: [u8; 4], a: [u8; 16], cap: [u8; 6]) -> Pair
+    ensures { λ r. ⌜ r ≡ paired (firstReply kx ti a cap) firstReplyCost ⌝ }
 {
     let mut b = [0u8; 32];
     let t = turn(a);
@@ -107,8 +131,8 @@ pub fn first_reply(kx: [u8; 16], ti: [u8; 4], a: [u8; 16], cap: [u8; 6]) -> [u8;
 }
 
 // The reply of part two of 77: RndA'.
-pub fn next_reply(kx: [u8; 16], a: [u8; 16]) -> [u8; 16]
-    ensures { λ r. ⌜ r ≡ nextReply kx a ⌝ }
+pub fn next_reply(kx: [u8; 16], a: [u8; 16]) -> Ciphered
+    ensures { λ r. ⌜ r ≡ ciphered (nextReply kx a) nextReplyCost ⌝ }
 {
     encipher_one(kx, turn(a))
 }

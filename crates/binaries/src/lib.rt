@@ -73,7 +73,7 @@ fn update_binary(tag: Tag, k: Command, x: &[u8]) -> Done
     let mut t = tag;
     let f = file_parts::with_bytes(t.files, k.file, k.offset, x);
     t.files = f;
-    replies::give(replies::after(t), 0x9000, [0; 258], 0)
+    replies::give(replies::after(t), 0x9000, [0; 258], 0, 0)
 }
 
 // A read or an update of the selected file, granted so.

@@ -14,7 +14,8 @@ use Rattle.key_expansion.specs.Keys.{keyExpansion}
 use Rattle.inverse.proofs.KeyBlocks.{keys-are}
 use Rattle.inverse.proofs.Chaining.{cbcOut-length, cbc-back-of-out}
 use Rattle.session_keys.specs.Keys.{sessionKeys}
-use Rattle.authentication.specs.Authentication.{zeros, enciphered, deciphered, turned, challenge, proofOf, partTwo, firstReply, nextReply}
+use Rattle.cbc.specs.Cbc.{cbcCost}
+use Rattle.authentication.specs.Authentication.{zeros, enciphered, deciphered, turned, challenge, proofOf, proofCost, partTwo, firstReply, nextReply}
 use Rattle.authentication.specs.declared.Proof.the-variants.{Right}
 
 zeros-bytes : (n : ℕ) → AllBytes (zeros n)
@@ -64,8 +65,8 @@ module _ (kx a b : List ℕ) (k : IsBlock kx) (ha : IsBlock a) (hb : IsBlock b) 
   challenge-length = enciphered-length kx (a ++ turned b) k both-bytes (rw both-length refl) ∙ both-length
 
   -- the tag accepts part two, and learns RndA
-  pub part-two-right : partTwo kx b (challenge kx a b) ≡ record { proof = Right; a = a }
-  unfolding partTwo proofOf
+  pub part-two-right : partTwo kx b (challenge kx a b) ≡ record { proof = Right; a = a; cost = cbcCost 32 }
+  unfolding partTwo proofOf proofCost
   part-two-right =
       rw (eq-eqb (length (challenge kx a b)) 32 challenge-length, both-back, drop-at a (turned b) 16 (ha .len), same-refl (turned b), take-at a (turned b) 16 (ha .len)) refl
 

@@ -27,7 +27,7 @@ use Rattle.closing.specs.Reply.{filled, closed, closedLength, replyRight, reply
 use Rattle.messaging.specs.declared.Session.{Session}
 use Rattle.messaging.specs.declared.Mode.{Mode}
 use Rattle.messaging.specs.declared.Mode.the-variants.{Plain, Mac, Full}
-use Rattle.opening.specs.declared.Opened.{Opened}
+use Rattle.opening.specs.declared.OpenedFor.{OpenedFor}
 use Rattle.opening.specs.declared.Opened.the-variants.{Data}
 use Rattle.closing.proofs.Closing.{hidden-some, hidden-none}
 use Rattle.opening.proofs.Opening.{opening-right}
@@ -181,12 +181,12 @@ sent-command-opens s m cmd header t d k h e =
     ∙ rw (signed-right s cmd (header ++ p) m, signed-front s cmd (header ++ p) m, drop-append-seam header p) (content-sent s k (commandIv s) b d h m t e)
 
 -- so the tag's own function answers with the data, and lays it into the room
-pub sent-command-data : (s : Session) (m : Mode) (cmd : ℕ) (header : List ℕ) (t : Bool) (d old new : List ℕ) (r : Opened) → IsBlock (s .enc) → AllBytes d
+pub sent-command-data : (s : Session) (m : Mode) (cmd : ℕ) (header : List ℕ) (t : Bool) (d old new : List ℕ) (n : ℕ) (r : OpenedFor) → IsBlock (s .enc) → AllBytes d
     → (t ≡ false → d ≡ []) → length (sentCommand s m cmd header t d) ≤ 255 → length (sentCommand s m cmd header t d) ≤ length old
-    → Opens (sentCommand s m cmd header t d) (opening s m cmd (sentCommand s m cmd header t d) (length header) t) old r new
-    → (r ≡ Data (length d)) × (new ≡ over d old)
+    → Opens (sentCommand s m cmd header t d) (opening s m cmd (sentCommand s m cmd header t d) (length header) t) n old r new
+    → (r .opened ≡ Data (length d)) × (new ≡ over d old)
 unfolding answers leaves
-sent-command-data s m cmd header t d old new r k h e f g o =
+sent-command-data s m cmd header t d old new n r k h e f g o =
     let x = sentCommand s m cmd header t d in
     let q = sent-command-opens s m cmd header t d k h e in (
       o .answer ∙ rw (le-ltb 255 (length x) f, le-ltb (length old) (length x) g, q) refl,

@@ -10,8 +10,8 @@ use lib.ListN.{length, take, drop, length-take, length-drop}
 use lib.Seq.{take-all, drop-drop, take-paste, drop-paste}
 use Rattle.base.specs.Bytes.{laid}
 use Rattle.base.proofs.Bytes.{laid-fits, laid-length}
-use Rattle.cbc.specs.Cbc.{across, blockAt, Chains}
-use Rattle.cbc.specs.declared.Chained.{Chained}
+use Rattle.cbc.specs.Cbc.{across, blockAt, cbcCost, Chains}
+use Rattle.cbc.specs.declared.Chain.{Chain}
 
 -- a block inside the slice
 pub block-inside : (s : List ℕ) (at : ℕ) → at + 16 ≤ length s → blockAt s at ≡ take 16 (drop at s)
@@ -64,5 +64,9 @@ module _ (f g : List ℕ → List ℕ → List ℕ) (n₀ : ℕ) (v₀ old : Lis
   still-end buf v at (suc n) h p = absurd (omega arith)
 
 -- whole blocks are chained
-pub chains-whole : {f : List ℕ → List ℕ} {old new : List ℕ} {r : Chained} → Chains f old r new → length old % 16 ≡ 0 → new ≡ f old
+pub chains-whole : {f : List ℕ → List ℕ} {old new : List ℕ} {r : Chain} → Chains f old r new → length old % 16 ≡ 0 → new ≡ f old
 chains-whole {old = old} h e = simp (eq-eqb (length old % 16) 0 e) at (h .left)
+
+-- and each block is counted
+pub chains-cost : {f : List ℕ → List ℕ} {old new : List ℕ} {r : Chain} → Chains f old r new → length old % 16 ≡ 0 → r .cost ≡ cbcCost (length old)
+chains-cost {old = old} h e = simp (eq-eqb (length old % 16) 0 e) at (h .cost)

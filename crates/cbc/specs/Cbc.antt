@@ -7,6 +7,7 @@ use lib.Dec.{eqb, leb}
 use lib.ListN.{length, take, drop, replicate}
 use Rattle.base.specs.Decide.{pick}
 use Rattle.aes.specs.Block.{cipher, invCipher, xorBlock}
+use Rattle.cbc.specs.declared.Chain.{Chain}
 use Rattle.cbc.specs.declared.Chained.{Chained}
 use Rattle.cbc.specs.declared.Chained.the-variants.{Done, Ragged}
 
@@ -35,6 +36,10 @@ cbcOut w v s = across (sealed w) (sealed w) (length s / 16) v s
 unfoldable pub cbcBack : List (List ℕ) → List ℕ → List ℕ → List ℕ
 cbcBack w v s = across (opened w) (λ u c. c) (length s / 16) v s
 
+-- 02, request 10: what n bytes cost, either way: each block is computed once
+unfoldable pub cbcCost : ℕ → ℕ
+cbcCost n = n / 16
+
 -- the length is a whole number of blocks
 abbrev pub whole : List ℕ → Bool
 whole s = eqb (length s % 16) 0
@@ -44,8 +49,10 @@ unfoldable pub chainedNumber : Chained → ℕ
 chainedNumber Done = 0
 chainedNumber Ragged = 1
 
--- the answer with its number, and what the buffer holds: a length that is no whole number of blocks is refused, the buffer as it was
-pub record Chains (f : List ℕ → List ℕ) (old : List ℕ) (r : Chained) (new : List ℕ) : Type 0 where
-  pub told : r ≡ pick (whole old) Done Ragged
+-- the answer with its number, what the buffer holds and what it cost: a length that is no whole number of blocks is refused before any
+-- block, the buffer as it was
+pub record Chains (f : List ℕ → List ℕ) (old : List ℕ) (r : Chain) (new : List ℕ) : Type 0 where
+  pub told : r .chained ≡ pick (whole old) Done Ragged
   pub left : new ≡ pick (whole old) (f old) old
-  pub number : chainedNumber r ≡ pick (whole old) 0 1
+  pub number : chainedNumber (r .chained) ≡ pick (whole old) 0 1
+  pub cost : r .cost ≡ pick (whole old) (cbcCost (length old)) 0

@@ -5,7 +5,13 @@ use aes::decrypt_with;
 use aes::encrypt_with;
 use aes::xor_block;
 
-// What chaining over a lent buffer came to.
+// What chaining over a lent buffer came to, and how many blocks were computed.
+pub struct Chain {
+    pub chained: Chained,
+    pub cost: usize,
+}
+
+// What it came to.
 pub enum Chained {
     // Every block was done.
     Done,
@@ -29,46 +35,65 @@ pub fn load(s: &[u8], at: usize) -> [u8; 16]
 }
 
 // Encrypts a buffer, from an initial vector.
-pub fn cbc_encrypt(w: &[[u8; 16]; 11], iv: [u8; 16], buf: &mut [u8]) -> Chained
+pub fn cbc_encrypt(w: &[[u8; 16]; 11], iv: [u8; 16], buf: &mut [u8]) -> Chain
     ensures { λ r. ⌜ Chains (cbcOut (now (w .entry)) iv) (now (buf .entry)) r (now (buf .exit)) ⌝ }
 {
     if buf.len() % 16 != 0 {
-        return Chained::Ragged;
+        return Chain {
+            chained: Chained::Ragged,
+            cost: 0,
+        };
     }
     let t = sbox::mixing();
     let mut v = iv;
+    let mut cost = 0;
     let mut at = 0;
     let mut left = buf.len() / 16;
     while 0 < left {
         let p = load(buf, at);
         let out = encrypt_with(&t, w, xor_block(p, v));
-        base::put(&out, buf, at);
-        v = out;
+        let b = out.bytes;
+        base::put(&b, buf, at);
+        v = b;
+        cost += out.cost;
         at += 16;
         left -= 1;
     }
-    Chained::Done
+    Chain {
+        chained: Chained::Done,
+        cost,
+    }
 }
 
 // Decrypts a buffer, from an initial vector.
-pub fn cbc_decrypt(w: &[[u8; 16]; 11], iv: [u8; 16], buf: &mut [u8]) -> Chained
+pub fn cbc_decrypt(w: &[[u8; 16]; 11], iv: [u8; 16], buf: &mut [u8]) -> Chain
     ensures { λ r. ⌜ Chains (cbcBack (now (w .entry)) iv) (now (buf .entry)) r (now (buf .exit)) ⌝ }
 {
     if buf.len() % 16 != 0 {
-        return Chained::Ragged;
+        return Chain {
+            chained: Chained::Ragged,
+            cost: 0,
+        };
     }
     let b = sbox::backward();
     let u = sbox::unmixing();
     let mut v = iv;
+    let mut cost = 0;
     let mut at = 0;
     let mut left = buf.len() / 16;
     while 0 < left {
         let c = load(buf, at);
-        let p = xor_block(decrypt_with(&b, &u, w, c), v);
+        let d = decrypt_with(&b, &u, w, c);
+        let x = d.bytes;
+        let p = xor_block(x, v);
         base::put(&p, buf, at);
         v = c;
+        cost += d.cost;
         at += 16;
         left -= 1;
     }
-    Chained::Done
+    Chain {
+        chained: Chained::Done,
+        cost,
+    }
 }

@@ -3,19 +3,20 @@ use mathlib.Core.Bool.{true, false}
 use mathlib.Core.Path.{_≡_, refl, sym, ap, ap₂, _∙_}
 use mathlib.Core.List.{List, _++_}
 use mathlib.Core.Logic.{⊎-elim}
-use Prim.Native.Nat.{ℕ, _+_, _*_, _/_, _≤_, _<_}
+use Prim.Native.Nat.{ℕ, _+_, _-_, _*_, _/_, _≤_, _<_}
 use native.Mathlib.Omega.{arith}
 use lib.ListN.{length, take, drop}
 use lib.Seq.{length-take-le, take-at, drop-at}
 use borrow.Author.Tests.{le-leb, le-ltb, lt-ltb, ltb-false}
 use Rattle.base.specs.Bytes.{over}
 use Rattle.base.proofs.Bytes.{Holds, front, le-or-lt}
-use Rattle.cbc.specs.Cbc.{Chains, cbcOut}
+use Rattle.cbc.specs.Cbc.{Chains, cbcOut, cbcCost}
 use Rattle.key_expansion.specs.Keys.{keyExpansion}
-use Rattle.cbc.specs.declared.Chained.{Chained}
+use Rattle.cbc.specs.declared.Chain.{Chain}
 use Rattle.padding.specs.Padding.{padded, paddedLength, paddedIn, Pads}
-use Rattle.messaging.specs.Protect.{messageMac, sent, signed, replyVector, replyIv}
-use Rattle.closing.specs.Reply.{filled, closed, hiddenLength, closedLength, overlong, closing, closedIn, Seals, Closes}
+use Rattle.messaging.specs.Protect.{messageMac, messageMacCost, sent, signed, replyVector, replyIv, partCost, signedCost, vectorCost}
+use Rattle.messaging.proofs.Costs.{part-few, signed-few}
+use Rattle.closing.specs.Reply.{filled, closed, hiddenLength, closedLength, overlong, closedCost, closedFor, closing, closingCost, closedIn, Seals, Closes}
 use Rattle.messaging.specs.declared.Session.{Session}
 use Rattle.messaging.specs.declared.Mode.{Mode}
 use Rattle.messaging.specs.declared.Mode.the-variants.{Plain, Mac, Full}
@@ -64,7 +65,7 @@ padded-in n old new r f h =
     }
 
 -- the bytes at the front of a room, padded, then encrypted in place
-pub seals-some : (s : Session) (iv old mid new : List ℕ) (w : List (List ℕ)) (n : ℕ) (r : Padded) (q : Chained) → 1 ≤ n
+pub seals-some : (s : Session) (iv old mid new : List ℕ) (w : List (List ℕ)) (n : ℕ) (r : Padded) (q : Chain) → 1 ≤ n
     → n / 16 * 16 + 16 ≤ length old → Pads n old r mid → w ≡ keyExpansion (s .enc) → iv ≡ replyIv s
     → Chains (cbcOut w iv) (take (n / 16 * 16 + 16) mid) q new → length new ≡ n / 16 * 16 + 16
     → Seals (sent Full s (replyIv s) (filled n) (take n old)) (hiddenLength n) old (n / 16 * 16 + 16) (new ++ drop (n / 16 * 16 + 16) mid)
@@ -102,23 +103,22 @@ seals-signed g p old mid new k e r h f =
 
 -- ---- the whole
 module _ (s : Session) (m : Mode) (code n : ℕ) (old : List ℕ) where
-  pub closes-over : overlong m n ≡ true → Closes s m code n old Over old
-  unfolding closing closedIn
-  closes-over e = record { answer = rw e refl; room = rw e refl }
+  pub closes-over : overlong m n ≡ true → Closes s m code n old (closedFor Over 0) old
+  unfolding closing closedIn closingCost
+  closes-over e = record { answer = rw e refl; cost = rw e refl; room = rw e refl }
 
-  pub closes-small : overlong m n ≡ false → length old < closedLength m n → Closes s m code n old Small old
-  unfolding closing closedIn
+  pub closes-small : overlong m n ≡ false → length old < closedLength m n → Closes s m code n old (closedFor Small 0) old
+  unfolding closing closedIn closingCost
   closes-small e f =
-      record { answer = rw (e, lt-ltb (length old) (closedLength m n) f) refl; room = rw (e, lt-ltb (length old) (closedLength m n) f) refl }
+      let g = lt-ltb (length old) (closedLength m n) f in
+      record { answer = rw (e, g) refl; cost = rw (e, g) refl; room = rw (e, g) refl }
 
-  pub closes : (r : ℕ) (new : List ℕ) → overlong m n ≡ false → closedLength m n ≤ length old
-      → Seals (closed s m code (take n old)) (closedLength m n) old r new → Closes s m code n old (Reply r) new
-  unfolding closing closedIn
-  closes r new e f h =
-      record {
-        answer = rw (e, le-ltb (length old) (closedLength m n) f) (ap Reply (h .count));
-        room = rw (e, le-ltb (length old) (closedLength m n) f) (h .room);
-      }
+  pub closes : (r k : ℕ) (new : List ℕ) → overlong m n ≡ false → closedLength m n ≤ length old
+      → Seals (closed s m code (take n old)) (closedLength m n) old r new → k ≡ closedCost m n → Closes s m code n old (closedFor (Reply r) k) new
+  unfolding closing closedIn closingCost
+  closes r k new e f h c =
+      let g = le-ltb (length old) (closedLength m n) f in
+      record { answer = rw (e, g) (ap Reply (h .count)); cost = rw (e, g) c; room = rw (e, g) (h .room) }
 
 -- what is closed, in each mode
 pub closed-plain : (s : Session) (code : ℕ) (d : List ℕ) → closed s Plain code d ≡ d
@@ -133,3 +133,40 @@ pub closed-full : (s : Session) (code n : ℕ) (d : List ℕ) → length d ≡ n
     → closed s Full code d ≡ sent Full s (replyIv s) (filled n) d ++ messageMac s code (sent Full s (replyIv s) (filled n) d)
 unfolding closed signed
 closed-full s code n d e = rw e refl
+
+-- ---- what it costs, in each mode
+pub cost-plain : (n : ℕ) → 0 ≡ closedCost Plain n
+unfolding closedCost partCost signedCost
+cost-plain n = refl
+
+pub cost-mac : (n : ℕ) → messageMacCost n ≡ closedCost Mac n
+unfolding closedCost closedLength partCost signedCost
+cost-mac n =
+    let e : n ≡ n + 8 - 8 = omega arith in
+    let f = ap messageMacCost e in omega (arith, f)
+
+pub cost-full : (n : ℕ) → partCost Full (filled n) (hiddenLength n) + messageMacCost (hiddenLength n) ≡ closedCost Full n
+unfolding closedCost closedLength signedCost
+cost-full n =
+    let e : hiddenLength n ≡ hiddenLength n + 8 - 8 = omega arith in
+    ap (λ k. partCost Full (filled n) k + messageMacCost k) e
+
+-- the part alone
+pub hidden-cost : (n k v c : ℕ) → 1 ≤ n → k ≡ n / 16 * 16 + 16 → v ≡ vectorCost → c ≡ cbcCost k → v + c ≡ partCost Full (filled n) (hiddenLength n)
+unfolding partCost
+hidden-cost n k v c h e f g = rw (le-leb 1 n h, hidden-some n h) (ap₂ (λ x y. x + y) f (g ∙ ap cbcCost e))
+
+-- at most 33 blocks for a reply of at most 256 bytes, and two where it has no data
+pub closed-few : (m : Mode) (n : ℕ) → closedLength m n ≤ 256 → closedCost m n ≤ 33
+unfolding closedCost closedLength
+closed-few Plain n h = omega (arith, cost-plain n)
+closed-few Mac n h = omega (arith, part-few Mac (filled n) (n + 8 - 8), signed-few Mac (n + 8 - 8))
+closed-few Full n h =
+    let k = hiddenLength n + 8 - 8 in
+    omega (arith, part-few Full (filled n) k, signed-few Full k)
+
+pub closed-empty : (m : Mode) → closedCost m 0 ≤ 2
+unfolding closedCost closedLength hiddenLength partCost
+closed-empty Plain = omega (arith, cost-plain 0)
+closed-empty Mac = omega (arith, signed-few Mac 0)
+closed-empty Full = omega (arith, signed-few Full 0)

@@ -9,11 +9,12 @@ use Rattle.base.specs.Decide.{pick, and}
 use Rattle.base.specs.Bytes.{over}
 use Rattle.base.specs.Status.{operationOk, lengthError}
 use Rattle.padding.specs.Padding.{paddedLength}
-use Rattle.messaging.specs.Protect.{replyIv, macLength, sent, signed, Opening, wrongLength, wrongMac, content, macRight}
+use Rattle.messaging.specs.Protect.{replyIv, macLength, sent, signed, Opening, wrongLength, wrongMac, content, macRight, partCost, signedCost}
 use Rattle.messaging.specs.declared.Session.{Session}
 use Rattle.messaging.specs.declared.Mode.{Mode}
 use Rattle.messaging.specs.declared.Mode.the-variants.{Plain, Mac, Full}
 use Rattle.closing.specs.declared.Closed.{Closed}
+use Rattle.closing.specs.declared.ClosedFor.{ClosedFor}
 use Rattle.closing.specs.declared.Closed.the-variants.{Reply, Over, Small}
 
 -- an empty data part isn't encrypted
@@ -34,6 +35,15 @@ closedLength Plain n = n
 closedLength Mac n = n + 8
 closedLength Full n = hiddenLength n + 8
 
+-- 02, request 10: what it costs to close n bytes: the data part as it is sent, and the MAC over it
+unfoldable pub closedCost : Mode → ℕ → ℕ
+closedCost m n =
+    let k = closedLength m n - macLength m in
+    partCost m (filled n) k + signedCost m k
+
+abbrev pub closedFor : Closed → ℕ → ClosedFor
+closedFor c n = record { closed = c; cost = n }
+
 -- 01 (house): a reply over 256 bytes with its MAC
 unfoldable pub overlong : Mode → ℕ → Bool
 overlong m n = ltb 256 (closedLength m n)
@@ -46,14 +56,19 @@ unfoldable pub closedIn : Session → Mode → ℕ → ℕ → List ℕ → List
 closedIn s m code n old =
     pick (overlong m n) old (pick (ltb (length old) (closedLength m n)) old (over (closed s m code (take n old)) old))
 
+-- what that costs: a refusal nothing
+unfoldable pub closingCost : Mode → ℕ → List ℕ → ℕ
+closingCost m n old = pick (overlong m n) 0 (pick (ltb (length old) (closedLength m n)) 0 (closedCost m n))
+
 -- what stands at the front of a room became the bytes p, k of them, over what stood there
 pub record Seals (p : List ℕ) (k : ℕ) (old : List ℕ) (r : ℕ) (new : List ℕ) : Type 0 where
   pub count : r ≡ k
   pub len : k ≡ length p
   pub room : new ≡ over p old
 
-pub record Closes (s : Session) (m : Mode) (code n : ℕ) (old : List ℕ) (r : Closed) (new : List ℕ) : Type 0 where
-  pub answer : r ≡ closing m n old
+pub record Closes (s : Session) (m : Mode) (code n : ℕ) (old : List ℕ) (r : ClosedFor) (new : List ℕ) : Type 0 where
+  pub answer : r .closed ≡ closing m n old
+  pub cost : r .cost ≡ closingCost m n old
   pub room : new ≡ closedIn s m code n old
 
 -- 01's status for each answer; a room that is too small is refused before any status (01's refusal 1) and has the house's

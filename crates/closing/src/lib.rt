@@ -4,7 +4,13 @@ mod reply;
 pub use reply::close;
 pub use reply::too_long;
 
-// What closing a reply came to.
+// What closing a reply came to, and how many blocks were computed.
+pub struct ClosedFor {
+    pub closed: Closed,
+    pub cost: usize,
+}
+
+// What it came to.
 pub enum Closed {
     // The reply stands at the front of the room, this many bytes.
     Reply(usize),

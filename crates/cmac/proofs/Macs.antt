@@ -1,7 +1,7 @@
 -- Laws of the CMAC's blocks.
 use mathlib.Core.Path.{_≡_, refl, sym, ap, _∙_}
 use mathlib.Core.List.{List, _∷_, _++_}
-use Prim.Native.Nat.{ℕ, zero, suc, _+_, _-_, _*_, _≤_, _<_}
+use Prim.Native.Nat.{ℕ, zero, suc, _+_, _-_, _*_, _/_, _≤_, _<_}
 use native.Mathlib.Omega.{arith}
 use borrow.Author.Tests.{ne-eqb}
 use lib.ListN.{length, take, drop, set, replicate, length-drop}
@@ -33,6 +33,22 @@ blocks-last : (n : ℕ) → n ≤ 16 → blocksOf n - 1 ≡ 0
 unfolding blocksOf
 blocks-last zero h = refl
 blocks-last (suc n) h = rw (ne-eqb (suc n) 0 (λ e. omega arith)) (omega arith)
+
+-- ---- how many blocks a message has: one more than what is left behind the first 16 bytes; the last is one
+pub blocks-turn : (n : ℕ) → 16 < n → blocksOf n ≡ suc (blocksOf (n - 16))
+unfolding blocksOf
+blocks-turn n h = rw (ne-eqb n 0 (λ e. omega arith), ne-eqb (n - 16) 0 (λ e. omega arith)) (omega arith)
+
+pub blocks-one : (n : ℕ) → n ≤ 16 → blocksOf n ≡ 1
+unfolding blocksOf
+blocks-one zero h = refl
+blocks-one (suc n) h = rw (ne-eqb (suc n) 0 (λ e. omega arith)) (omega arith)
+
+-- at most one for each 16 bytes begun, and one for none
+pub blocks-few : (n : ℕ) → blocksOf n ≤ n / 16 + 1
+unfolding blocksOf
+blocks-few zero = omega arith
+blocks-few (suc n) = rw (ne-eqb (suc n) 0 (λ e. omega arith)) (omega arith)
 
 pub from-more : (w : List (List ℕ)) (v s : List ℕ) → 16 < length s → from w v s ≡ from w (cipher w (xorBlock (take 16 s) v)) (drop 16 s)
 unfolding from chained

@@ -7,6 +7,7 @@ use Rattle.base.specs.Decide.{pick}
 use Rattle.base.specs.Bytes.{byteAt, tab}
 use Rattle.aes.specs.Block.{cipher, xorBlock}
 use Rattle.key_expansion.specs.Keys.{keyExpansion}
+use Rattle.cmac.specs.declared.Truncated.{Truncated}
 
 -- a block shifted to the left by one bit: each byte's low seven bits doubled, and the high bit of the byte behind it
 unfoldable pub shifted : List ℕ → List ℕ
@@ -43,6 +44,10 @@ chained w (suc n) v s = chained w n (cipher w (xorBlock (take 16 s) v)) (drop 16
 unfoldable pub cmac : List (List ℕ) → List ℕ → List ℕ
 cmac w s = chained w (blocksOf (length s) - 1) (replicate 16 0) s
 
+-- 02, request 10: what the CMAC of n bytes costs: the block of the subkeys (6.1), and each block of the message
+unfoldable pub cmacCost : ℕ → ℕ
+cmacCost n = 1 + blocksOf n
+
 -- 01: the second, fourth and every further even place of the CMAC, counted from the first as one
 unfoldable pub evenPlaces : List ℕ → List ℕ
 evenPlaces t = tab 8 (λ i. byteAt t (i * 2 + 1))
@@ -50,3 +55,7 @@ evenPlaces t = tab 8 (λ i. byteAt t (i * 2 + 1))
 -- 9.1.3: the MAC of a text under a key: the CMAC cut to its even places
 unfoldable pub mac : List ℕ → List ℕ → List ℕ
 mac key text = evenPlaces (cmac (keyExpansion key) text)
+
+-- those 8 bytes, and how many blocks were computed for them
+abbrev pub truncated : List ℕ → ℕ → Truncated
+truncated b n = record { bytes = b; cost = n }

@@ -4,10 +4,18 @@ ghost use mathlib.Core.List.{_∷_, _++_};
 ghost use Prim.Native.Nat.{_+_, _-_, _≤_, _<_};
 ghost use lib.ListN.{length, drop, replicate};
 ghost use Rattle.sbox.specs.Words.{mixingTable};
-ghost use Rattle.cmac.specs.Cmac.{shifted, doubled, lastBlock, chained, cmac, evenPlaces};
+ghost use Rattle.cmac.specs.Cmac.{shifted, doubled, lastBlock, cmac, evenPlaces, cmacCost, truncated};
+ghost use Rattle.aes.specs.Block.{ciphered, blockCost};
+use aes::Ciphered;
 use aes::encrypt_with;
 use aes::xor_block;
 use cbc::load;
+
+// The 8 bytes that are kept of a CMAC, and how many blocks were computed for them.
+pub struct Truncated {
+    pub bytes: [u8; 8],
+    pub cost: usize,
+}
 
 // A block shifted to the left by one bit.
 fn shift(s: [u8; 16]) -> [u8; 16]
@@ -46,37 +54,60 @@ fn padded(s: &[u8]) -> [u8; 16]
     r
 }
 
-// The last block of a message, summed with its subkey.
-fn last_block(t: &[u32; 256], w: &[[u8; 16]; 11], s: &[u8]) -> [u8; 16]
+// The last block of a message, summed with its subkey, for which a block is computed.
+fn last_block(t: &[u32; 256], w: &[[u8; 16]; 11], s: &[u8]) -> Ciphered
     requires { ⌜ (now t ≡ mixingTable) × (length (now s) ≤ 16) ⌝ }
-    ensures { λ r. ⌜ r ≡ lastBlock (now (w .entry)) (now (s .entry)) ⌝ }
+    ensures { λ r. ⌜ r ≡ ciphered (lastBlock (now (w .entry)) (now (s .entry))) blockCost ⌝ }
 {
-    let k1 = double_block(encrypt_with(t, w, [0u8; 16]));
+    let zero = encrypt_with(t, w, [0u8; 16]);
+    let cost = zero.cost;
+    let l = zero.bytes;
+    let k1 = double_block(l);
     if s.len() == 16 {
-        return xor_block(load(s, 0), k1);
+        return Ciphered {
+            bytes: xor_block(load(s, 0), k1),
+            cost,
+        };
     }
-    xor_block(padded(s), double_block(k1))
+    Ciphered {
+        bytes: xor_block(padded(s), double_block(k1)),
+        cost,
+    }
 }
 
 // The CMAC of a message of any length.
-pub fn cmac_of(w: &[[u8; 16]; 11], s: &[u8]) -> [u8; 16]
-    ensures { λ r. ⌜ r ≡ cmac (now (w .entry)) (now (s .entry)) ⌝ }
+pub fn cmac_of(w: &[[u8; 16]; 11], s: &[u8]) -> Ciphered
+    ensures { λ r. ⌜ r ≡ ciphered (cmac (now (w .entry)) (now (s .entry))) (cmacCost (length (now (s .entry)))) ⌝ }
 {
     let t = sbox::mixing();
     let mut v = [0u8; 16];
+    let mut cost = 0;
     let mut at = 0;
     while at + 16 < s.len() {
         let n = encrypt_with(&t, w, xor_block(load(s, at), v));
-        v = n;
+        let b = n.bytes;
+        v = b;
+        cost += n.cost;
         at += 16;
     }
-    encrypt_with(&t, w, xor_block(last_block(&t, w, &s[at..]), v))
+    let last = last_block(&t, w, &s[at..]);
+    let x = last.bytes;
+    let end = encrypt_with(&t, w, xor_block(x, v));
+    let bytes = end.bytes;
+    Ciphered {
+        bytes,
+        cost: cost + last.cost + end.cost,
+    }
 }
 
 // The second, fourth and every further even place of the CMAC.
-pub fn mac_of(w: &[[u8; 16]; 11], s: &[u8]) -> [u8; 8]
-    ensures { λ r. ⌜ r ≡ evenPlaces (cmac (now (w .entry)) (now (s .entry))) ⌝ }
+pub fn mac_of(w: &[[u8; 16]; 11], s: &[u8]) -> Truncated
+    ensures { λ r. ⌜ r ≡ truncated (evenPlaces (cmac (now (w .entry)) (now (s .entry)))) (cmacCost (length (now (s .entry)))) ⌝ }
 {
-    let t = cmac_of(w, s);
-    [t[1], t[3], t[5], t[7], t[9], t[11], t[13], t[15]]
+    let c = cmac_of(w, s);
+    let t = c.bytes;
+    Truncated {
+        bytes: [t[1], t[3], t[5], t[7], t[9], t[11], t[13], t[15]],
+        cost: c.cost,
+    }
 }

@@ -11,16 +11,17 @@ use Rattle.tag.specs.declared.Outcome.{Outcome}
 use Rattle.tag.specs.declared.Outcome.the-variants.{Replied, SmallRoom, WrongRandom, Unsound}
 use Rattle.access.specs.declared.Noted.{Noted}
 use Rattle.tag.specs.Way.{answered, noted}
-use Rattle.tag.specs.Call.{replyOf, outcomeOf, replied, unanswered, byOutcome, roomBy, notedBy, Calls}
+use Rattle.tag.specs.Call.{replyOf, outcomeOf, replied, unanswered, byOutcome, roomBy, notedBy, costBy, Calls}
 use Rattle.series.specs.Series.{Asked, step, after}
 use Rattle.demands.specs.Talks.{Said, heard, said, saidAll, Had, saying, Speaks, Played, held, sayings, SpeaksAll}
 
 -- ---- each outcome
 says-outcome : (t : Tag) (x : Answer) (n : Noted) (room : List ℕ) (o : Outcome)
-    → saying (record { result = byOutcome t x n o; room = roomBy x room o }) ≡ record { outcome = o; reply = heard x o; noted = notedBy n o }
+    → saying (record { result = byOutcome t x n o; room = roomBy x room o })
+    ≡ record { outcome = o; reply = heard x o; noted = notedBy n o; cost = costBy x o }
 unfolding replied unanswered
 says-outcome t x n room Replied =
-    let said-by : List ℕ → Said = λ s. record { outcome = Replied; reply = s; noted = n } in
+    let said-by : List ℕ → Said = λ s. record { outcome = Replied; reply = s; noted = n; cost = x .cost } in
     ap said-by (take-append-seam (replyOf x) (drop (length (replyOf x)) room))
 says-outcome t x n room SmallRoom = refl
 says-outcome t x n room WrongRandom = refl

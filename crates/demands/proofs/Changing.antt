@@ -37,15 +37,15 @@ use Rattle.series.proofs.Walk.{Sent}
 use Rattle.demands.specs.Talks.{stringIn}
 use Rattle.demands.proofs.Coming.{Bars, comes}
 
--- an accepted change: the tag opened it to a good string, and answers as 01 says of a good string
-pub record Changed (t : Tag) (c : List ℕ) (a : Answer) : Type 0 where
+-- an accepted change: the tag opened it to a good string, and became what 01 says of a good string
+pub record Changed (t : Tag) (c : List ℕ) (u : Tag) : Type 0 where
   pub mode : Mode
   pub text : List ℕ
   pub sent : Sent t c (byteAt (commandData c) 0) text mode
   pub idle : t .pending .on ≡ false
   pub place : fileStatus (byteAt (commandData c) 0) ≡ 0
   pub good : judged (byteAt (commandData c) 0) text ≡ Good
-  pub is : a ≡ byVerdict t (byteAt (commandData c) 0) (readingIn (t .files) (byteAt (commandData c) 0)) text mode Good
+  pub is : u ≡ byVerdict t (byteAt (commandData c) 0) (readingIn (t .files) (byteAt (commandData c) 0)) text mode Good .tag
 
 -- ---- statuses that refuse
 word-bars : (e : Status) → Bars (statusWord e)
@@ -77,7 +77,7 @@ module _ (t : Tag) (c random : List ℕ) (class : byteAt c 0 ≡ 0x90) (command 
   n = byteAt (commandData c) 0
 
   abbrev P : Answer → Type 0
-  P a = accepting (a .status) ≡ true → Changed t c a
+  P a = accepting (a .status) ≡ true → Changed t c (a .tag)
 
   refused : (s : ℕ) → Bars s → P (refusal t s)
   unfolding refusal
@@ -117,10 +117,10 @@ module _ (t : Tag) (c random : List ℕ) (class : byteAt c 0 ≡ 0x90) (command 
       subst (λ (j : ℕ). P (changedSettings t j r p m)) (sym file-is)
       (verdict-change p m (record { class = class; command = command; file = refl; allowed = a; decides = refl; opened = o }) i f (judged n p) refl)
 
-  pub accepted-change : accepting (answered t c random .status) ≡ true → Changed t c (answered t c random)
+  pub accepted-change : accepting (answered t c random .status) ≡ true → Changed t c (answered t c random .tag)
   unfolding commanded
   accepted-change =
-      comes t random P refused ChangeFileSettings c n class (ap (named 0x90) command ∙ change-known) file-is (λ k r x. refl)
+      comes t random P refused ChangeFileSettings c n class (ap (named 0x90) command ∙ change-known) file-is (λ k r x. refl) (λ a h. h)
       (λ z. own-change (idle-is z) (place-is z))
 
 -- the string of a change is the one that was opened

@@ -28,8 +28,8 @@ use Rattle.access.specs.declared.Decision.{Decision}
 use Rattle.access.specs.Access.{decided, grantStatus}
 use Rattle.state.specs.declared.Tag.{Tag}
 use Rattle.state.specs.State.{readingIn}
-use Rattle.replies.specs.Answer.{Answer, refusal}
-use Rattle.wrapped.specs.Wrapped.{own, openingOf, onOpening, wrapped}
+use Rattle.replies.specs.Answer.{Answer, costing, refusal}
+use Rattle.wrapped.specs.Wrapped.{own, openingOf, openingCostOf, onOpening, wrapped}
 use Rattle.tag.specs.Way.{usedUp, fromStep7, onGrant, fromStep6, commanded, onOrder, answered}
 use Rattle.series.specs.Series.{accepting, allows}
 use Rattle.series.proofs.Choices.{way}
@@ -118,6 +118,10 @@ module _ (t : Tag) (random : List ℕ) (P : Answer → Type 0) (refused : (s : �
     abbrev Owns : Type 0
     Owns = allows (d .grant) ≡ true → (p : List ℕ) → openingOf t k x (d .mode) ≡ plain p → P (own name t k r d p random)
 
+    -- and of what opening it costs
+    abbrev Costs : Type 0
+    Costs = (a : Answer) → P a → P (costing (openingCostOf t k x (d .mode)) a)
+
     opening-comes : allows (d .grant) ≡ true → Owns → (o : Opening) → openingOf t k x (d .mode) ≡ o → P (onOpening t k r d random o)
     unfolding wrappedCommand
     opening-comes a h (plain p) e = h a p e
@@ -125,11 +129,14 @@ module _ (t : Tag) (random : List ℕ) (P : Answer → Type 0) (refused : (s : �
     opening-comes a h wrongMac e = refused (openedStatus WrongMac) mac-bars
     opening-comes a h wrongPadding e = refused (openedStatus WrongPadding) padding-bars
 
-    step7-comes : allows (d .grant) ≡ true → Owns → P (fromStep7 t k r d x random)
+    step7-comes : allows (d .grant) ≡ true → Costs → Owns → P (fromStep7 t k r d x random)
     unfolding fromStep7 wrapped wrappedCommand
-    step7-comes a h =
+    step7-comes a costs h =
+        let o = openingOf t k x (d .mode) in
         way P (usedUp (t .live .on) (t .live .counter)) (λ e. refused 0x91AE full-bars)
-        (λ e. way P (ltb 255 (length x)) (λ e. refused 0x917E length-bars) (λ e. opening-comes a h (openingOf t k x (d .mode)) refl))
+        (λ e.
+        way P (ltb 255 (length x)) (λ e. refused 0x917E length-bars)
+        (λ e. costs (onOpening t k r d random o) (opening-comes a h o refl)))
 
     grant-comes : (g : Grant) → (allows g ≡ true → P (fromStep7 t k r d x random)) → P (onGrant g t k r d x random)
     unfolding onGrant wrappedCommand
@@ -140,9 +147,9 @@ module _ (t : Tag) (random : List ℕ) (P : Answer → Type 0) (refused : (s : �
     grant-comes Never h = refused (grantStatus 0x90 Never) never-bars
     grant-comes Denied h = refused (grantStatus 0x90 Denied) denied-bars
 
-    step6-comes : Owns → P (fromStep6 t k r x random)
+    step6-comes : Costs → Owns → P (fromStep6 t k r x random)
     unfolding fromStep6 wrappedCommand
-    step6-comes h = grant-comes (d .grant) (λ a. step7-comes a h)
+    step6-comes costs h = grant-comes (d .grant) (λ a. step7-comes a costs h)
 
   -- ---- steps 1 to 5
   -- the command comes to step 6 behind them
@@ -153,20 +160,21 @@ module _ (t : Tag) (random : List ℕ) (P : Answer → Type 0) (refused : (s : �
     abbrev Q : Ordered → Type 0
     Q o = P (onOrder t c random o)
 
-    known-comes : wrappedCommand name c .file ≡ n → Asks name → Owns name c (commandData c) (readingIn (t .files) n) → Q (Is (wrappedCommand name c))
+    known-comes : wrappedCommand name c .file ≡ n → Asks name → Costs name c (commandData c) (readingIn (t .files) n)
+        → Owns name c (commandData c) (readingIn (t .files) n) → Q (Is (wrappedCommand name c))
     unfolding wrappedCommand
-    known-comes file asks h =
+    known-comes file asks costs h =
         let k = wrappedCommand name c in
         subst P (sym (asks k (readingIn (t .files) (k .file)) (dataOf k c)))
         (subst (λ i. P (fromStep6 t k (readingIn (t .files) i) (dataOf k c) random)) (sym file)
         (subst (λ y. P (fromStep6 t k (readingIn (t .files) n) y random)) (sym (wrapped-data name c))
-        (step6-comes name c (commandData c) (readingIn (t .files) n) h)))
+        (step6-comes name c (commandData c) (readingIn (t .files) n) costs h)))
 
-    pub comes : wrappedCommand name c .file ≡ n → Asks name
+    pub comes : wrappedCommand name c .file ≡ n → Asks name → Costs name c (commandData c) (readingIn (t .files) n)
         → (eqb (wrappedStatus c (t .pending .on) (t .place .application)) 0 ≡ true → Owns name c (commandData c) (readingIn (t .files) n))
         → P (answered t c random)
     unfolding answered ordered wrappedOrder byStatus
-    comes file asks h =
+    comes file asks costs h =
         let s = wrappedStatus c (t .pending .on) (t .place .application) in
         way Q (or (ltb (length c) 4) (ltb 261 (length c))) (λ e. refused 0x6700 long-bars)
         (λ e.
@@ -175,6 +183,6 @@ module _ (t : Tag) (random : List ℕ) (P : Answer → Type 0) (refused : (s : �
         way Q (formRight c)
         (λ e.
         subst (λ o. Q (onWrapped c (t .pending .on) (t .place .application) o)) (sym known)
-        (way Q (eqb s 0) (λ z. known-comes file asks (h z)) (λ z. refused s (wrapped-bars c (t .pending .on) (t .place .application)))))
+        (way Q (eqb s 0) (λ z. known-comes file asks costs (h z)) (λ z. refused s (wrapped-bars c (t .pending .on) (t .place .application)))))
         (λ e. refused 0x917E length-bars))
         (against (eq-eqb (byteAt c 0) 0x90 class)))

@@ -48,23 +48,23 @@ use Rattle.demands.proofs.Series.{answered-rules}
 use Rattle.demands.proofs.Readback.{string-read}
 
 -- ---- one normal form, one tag
-module _ (t : Tag) (c d : List ℕ) (a b : Answer) (h : Changed t c a) (k : Changed t d b) (file : byteAt (commandData c) 0 ≡ byteAt (commandData d) 0) where
+module _ (t : Tag) (c d : List ℕ) (u v : Tag) (h : Changed t c u) (k : Changed t d v) (file : byteAt (commandData c) 0 ≡ byteAt (commandData d) 0) where
   one-mode : h .mode ≡ k .mode
   one-mode =
       sym (h .sent .decides)
       ∙ ap (λ n. decided ChangeFileSettings (t .live) (readingIn (t .files) n .settings .head) .mode) file
       ∙ k .sent .decides
 
-  one-answer : normal (h .text) ≡ normal (k .text) → a ≡ b
-  one-answer e =
+  one-tag : normal (h .text) ≡ normal (k .text) → u ≡ v
+  one-tag e =
       let l : length (h .text) ≡ length (k .text) = sym (normal-length (h .text)) ∙ ap length e ∙ normal-length (k .text) in
       let on : sdmOn (h .text) ≡ sdmOn (k .text) = sym (normal-sdm (h .text)) ∙ ap sdmOn e ∙ normal-sdm (k .text) in
       let n = byteAt (commandData d) 0 in
       let before = readingIn (t .files) n .settings .head .sdm in
-      let put : Bool → List ℕ → ℕ → Answer =
-      λ o s i. accepted (restrung t before o (withRules (t .files) n (s ++ replicate (27 - i) 0) i)) (k .mode) [] in
+      let put : Bool → List ℕ → ℕ → Tag =
+      λ o s i. accepted (restrung t before o (withRules (t .files) n (s ++ replicate (27 - i) 0) i)) (k .mode) [] .tag in
       h .is
-      ∙ ap₂ (λ j m. byVerdict t j (readingIn (t .files) j) (h .text) m Good) file one-mode
+      ∙ ap₂ (λ j m. byVerdict t j (readingIn (t .files) j) (h .text) m Good .tag) file one-mode
       ∙ ap (λ o. put o (normal (h .text)) (length (h .text))) on
       ∙ ap₂ (put (sdmOn (k .text))) e l
       ∙ sym (k .is)
@@ -83,18 +83,19 @@ select-moves u random e =
 -- GetFileSettings is answered by every tag in the application, with no session and no part two pending
 abbrev answers-settings : Tag → ℕ → List ℕ → Type 0
 answers-settings u n random =
-    answered (moved u true .tag) (settingsOf n) random ≡ accepted (moved u true .tag) Plain (settingsReply (rulesOf (u .files) n) (sizeOf n))
+    replyOf (answered (moved u true .tag) (settingsOf n) random)
+    ≡ replyOf (accepted (moved u true .tag) Plain (settingsReply (rulesOf (u .files) n) (sizeOf n)))
 
 tells-1 : (u : Tag) (random : List ℕ) → answers-settings u 1 random
-unfolding a-wrapped-command access a-message answered settingsOf moved noLive noPending fileSettings placed endedOf talking
+unfolding a-wrapped-command access a-message answered settingsOf moved noLive noPending fileSettings placed endedOf talking replyOf
 tells-1 u random = refl
 
 tells-2 : (u : Tag) (random : List ℕ) → answers-settings u 2 random
-unfolding a-wrapped-command access a-message answered settingsOf moved noLive noPending fileSettings placed endedOf talking
+unfolding a-wrapped-command access a-message answered settingsOf moved noLive noPending fileSettings placed endedOf talking replyOf
 tells-2 u random = refl
 
 tells-3 : (u : Tag) (random : List ℕ) → answers-settings u 3 random
-unfolding a-wrapped-command access a-message answered settingsOf moved noLive noPending fileSettings placed endedOf talking
+unfolding a-wrapped-command access a-message answered settingsOf moved noLive noPending fileSettings placed endedOf talking replyOf
 tells-3 u random = refl
 
 tells : (u : Tag) (random : List ℕ) (n : ℕ) → 1 ≤ n → n ≤ 3 → answers-settings u n random
@@ -154,7 +155,7 @@ second-heard u f p n a b l =
     ap (λ asked. second (saidAll u asked)) (telling-is n)
     ∙ ap (λ o. heard (answered v (settingsOf n) zeros20) o) (replied-outcome v (fine-sound v (fine-step u f (asking selectApplication))))
     ∙ ap (λ w. replyOf (answered w (settingsOf n) zeros20)) (step-moves u (fine-sound u f) p)
-    ∙ ap replyOf (tells u zeros20 n a b)
+    ∙ tells u zeros20 n a b
     ∙ plain-reply (moved u true .tag) d (reply-short (rulesOf (u .files) n) (sizeOf n) l)
 
 -- ---- what a change leaves
@@ -162,12 +163,12 @@ still-idle : (u : Tag) (m : Mode) → u .pending .on ≡ false → accepted u m 
 unfolding accepted refusal endedOf noPending afterwards talking
 still-idle u m e = way (λ (a : Answer). a .tag .pending .on ≡ false) (overlong m 0) (λ z. refl) (λ z. e)
 
-idle-after : (t : Tag) (c : List ℕ) (a : Answer) → Changed t c a → a .tag .pending .on ≡ false
+idle-after : (t : Tag) (c : List ℕ) (u : Tag) → Changed t c u → u .pending .on ≡ false
 unfolding restrung tapped filed
-idle-after t c a h =
+idle-after t c u h =
     let n = byteAt (commandData c) 0 in
     let p = h .text in
-    ap (λ (x : Answer). x .tag .pending .on) (h .is)
+    ap (λ (x : Tag). x .pending .on) (h .is)
     ∙ still-idle
     (restrung t (readingIn (t .files) n .settings .head .sdm) (sdmOn p) (withRules (t .files) n (normal p ++ replicate (27 - length p) 0) (length p)))
     (h .mode) (h .idle)
@@ -176,7 +177,7 @@ module _ (t : Tag) (f : Fine t) (n : ℕ) (a : 1 ≤ n) (b : n ≤ 3) (c random 
   next : Tag
   next = answered t c random .tag
 
-  is-changed : Changed t c (answered t c random)
+  is-changed : Changed t c (answered t c random .tag)
   unfolding isChange
   is-changed =
       accepted-change t c random (eqb-true (byteAt c 0) 0x90 (and-left _ _ change))
@@ -209,7 +210,7 @@ module _ (t : Tag) (f : Fine t) (n : ℕ) (a : 1 ≤ n) (b : n ≤ 3) (c random 
   told : second (saidAll next (telling n)) ≡ settingsReply (normal (stringIn t c)) (sizeOf n) ++ 0x91 ∷ 0x00 ∷ []
   unfolding next
   told =
-      second-heard (answered t c random .tag) (fine-answered t f c random) (idle-after t c (answered t c random) is-changed) n a b short
+      second-heard (answered t c random .tag) (fine-answered t f c random) (idle-after t c (answered t c random .tag) is-changed) n a b short
       ∙ ap (λ s. settingsReply s (sizeOf n) ++ 0x91 ∷ 0x00 ∷ []) holds
 
 -- For any sound tag, file and two ChangeFileSettings commands that this tag accepts, given the same random bytes: where the two
@@ -234,10 +235,9 @@ forms-alike : (t : Tag) → Typed t → soundTag t ≡ true → (n : ℕ) → 1 
 forms-alike t s e n a b c d random p q x y o =
     let f = sound-fine t s e in
     alike-same (answered t c random .tag) (answered t d random .tag)
-    (ap (λ (z : Answer). z .tag)
-    (one-answer t c d (answered t c random) (answered t d random) (is-changed t f n a b c random p x) (is-changed t f n a b d random q y)
+    (one-tag t c d (answered t c random .tag) (answered t d random .tag) (is-changed t f n a b c random p x) (is-changed t f n a b d random q y)
     (file-is t f n a b c random p x ∙ sym (file-is t f n a b d random q y))
-    (sym (ap normal (string-is t f n a b c random p x)) ∙ o ∙ ap normal (string-is t f n a b d random q y))))
+    (sym (ap normal (string-is t f n a b c random p x)) ∙ o ∙ ap normal (string-is t f n a b d random q y)))
 
 -- tags that are alike answer `telling` alike
 alike-told : (t u : Tag) (n : ℕ) → Alike t u → saidAll t (telling n) ≡ saidAll u (telling n)

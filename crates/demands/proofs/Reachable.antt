@@ -18,9 +18,9 @@ use Rattle.aes.specs.Block.{IsBlock}
 use Rattle.messaging.specs.declared.Mode.{Mode}
 use Rattle.messaging.specs.declared.Mode.the-variants.{Plain, Full}
 use Rattle.messaging.specs.declared.Session.{Session}
-use Rattle.messaging.specs.Protect.{messageMac, sent, signed, plain}
-use Rattle.opening.specs.Command.{sentCommand, opening}
-use Rattle.closing.specs.Reply.{closed, overlong}
+use Rattle.messaging.specs.Protect.{messageMac, sent, signed, Opening, plain}
+use Rattle.opening.specs.Command.{sentCommand, opening, openingCost}
+use Rattle.closing.specs.Reply.{closed, closedCost, overlong}
 use Rattle.both_ends.proofs.Messages.{sent-command-opens}
 use Rattle.fields.specs.declared.Head.{Head}
 use Rattle.fields.specs.declared.Settings.{Settings}
@@ -43,7 +43,7 @@ use Rattle.state.specs.State.{rulesOf, readingIn, talking, tapped, filed, sessi
 use Rattle.delivery.specs.Fresh.{rightUid}
 use Rattle.access.specs.Access.{conditionOf, firstOf, allNever, granted, changeGrant, grantFor, underKey, modeFor, decided}
 use Rattle.soundness.specs.Sound.{soundTag}
-use Rattle.replies.specs.Answer.{Answer, given, accepted, afterwards, raised}
+use Rattle.replies.specs.Answer.{Answer, givenFor, costing, accepted, afterwards, raised}
 use Rattle.change_settings.specs.ChangeSettings.{restrung, byVerdict, changedSettings}
 use Rattle.tag.specs.declared.Outcome.the-variants.{Replied}
 use Rattle.order.specs.Order.{headerLength, hasData}
@@ -60,7 +60,7 @@ use Rattle.series.proofs.Soundness.{sound-call}
 use Rattle.series.proofs.Born.{zeros-bytes}
 use Rattle.series.proofs.Changes.{short-none}
 use Rattle.demands.specs.Samples.{tagOf, sample}
-use Rattle.demands.specs.Reaching.{built, changeOf, carried, changing, asking, changed, Ready, UnderE, UnderKey, Reached}
+use Rattle.demands.specs.Reaching.{built, changeOf, carried, changeCost, changing, asking, changed, Ready, UnderE, UnderKey, Reached}
 use Rattle.demands.proofs.Building.{against, wrapped-bound, wrapped-first, wrapped-filled, built-file, built-comes}
 
 -- ---- the due mode
@@ -153,7 +153,8 @@ module _ (t : Tag) (n : ℕ) (m : Mode) (s x : List ℕ) (random : List ℕ) (P 
 
   -- step 9: a good string is stored
   own-accepts : judged n s ≡ Good → k .file ≡ n → d .mode ≡ m
-      → P (given (changed t n s) 0x9100 (closed (sessionOf (raised (t .live))) m 0 [])) → P (own ChangeFileSettings t k r d s random)
+      → P (givenFor (closedCost m 0) (changed t n s) 0x9100 (closed (sessionOf (raised (t .live))) m 0 []))
+      → P (own ChangeFileSettings t k r d s random)
   unfolding own changedSettings accepted changed restrung padOut tapped filed
   own-accepts g f e p =
       subst (λ i. P (changedSettings t i r s (d .mode))) (sym f)
@@ -162,31 +163,39 @@ module _ (t : Tag) (n : ℕ) (m : Mode) (s x : List ℕ) (random : List ℕ) (P 
 
   -- steps 6 to 8: access, CmdCtr, and the message, which opens to the string
   step6-owns : Ready t n m → length x ≤ 255 → opening (sessionOf (t .live)) m 0x5F x 1 true ≡ plain s
-      → P (own ChangeFileSettings t k r d s random) → P (fromStep6 t k r x random)
+      → P (costing (openingCost (sessionOf (t .live)) m 0x5F x 1 true) (own ChangeFileSettings t k r d s random))
+      → P (fromStep6 t k r x random)
   unfolding fromStep6 fromStep7 wrapped wrappedCommand built headerLength hasData oneOf
   step6-owns h l o p =
+      let live = sessionOf (t .live) in
+      let opens : Mode → Opening = λ j. opening live j 0x5F x 1 true in
+      let costs : Mode → ℕ = λ j. openingCost live j 0x5F x 1 true in
       granted-on (d .grant) t k r d x random P (ready-allows t n m h)
       (way P (and (t .live .on) (eqb (t .live .counter) 65535)) (λ z. against z (not-full (t .live .on) (t .live .counter) (h .counter)))
       (λ z.
       way P (ltb 255 (length x)) (λ z. against z (le-ltb 255 (length x) l))
-      (λ z. subst (λ a. P (onOpening t k r d random a)) (sym (ap (λ j. opening (sessionOf (t .live)) j 0x5F x 1 true) (h .decides) ∙ o)) p)))
+      (λ z.
+      subst (λ j. P (costing (costs j) (onOpening t k r d random (opens j)))) (sym (h .decides))
+      (subst (λ a. P (costing (costs m) (onOpening t k r d random a))) (sym o) p))))
 
 -- ---- the theorem
 module _ (t : Tag) (n : ℕ) (r : Settings) (m : Mode) (h : Ready t n m) (e : meets n r ≡ true) (random : List ℕ) where
-  reach : answered t (changing t m n (stringOf r)) random ≡ given (changed t n (stringOf r)) 0x9100 (closed (sessionOf (raised (t .live))) m 0 [])
-  unfolding changing
+  reach : answered t (changing t m n (stringOf r)) random
+      ≡ givenFor (changeCost t m n (stringOf r)) (changed t n (stringOf r)) 0x9100 (closed (sessionOf (raised (t .live))) m 0 [])
+  unfolding changing changeCost
   reach =
       let s = stringOf r in
       let g = one-string n r (h .first) (h .last) e .good in
       let x = carried t m n s in
       let b = string-bytes n r e in
-      let P : Answer → Type 0 = λ a. a ≡ given (changed t n s) 0x9100 (closed (sessionOf (raised (t .live))) m 0 []) in
+      let P : Answer → Type 0 = λ a. a ≡ givenFor (changeCost t m n s) (changed t n s) 0x9100 (closed (sessionOf (raised (t .live))) m 0 []) in
+      let Q : Answer → Type 0 = λ a. P (costing (openingCost (sessionOf (t .live)) m 0x5F x 1 true) a) in
       let filled = carried-filled t n m s in
       let fits = carried-short t n m s (h .typed .enc) b g in
       let is = carried-first t n m s in
       built-comes x n filled fits is (h .first) (h .last) t random P (h .idle) (h .application)
       (step6-owns t n m s x random P h fits (carried-opens t n m s (h .typed .enc) b)
-      (own-accepts t n m s x random P g (built-file x n filled fits is (h .first) (h .last)) (h .decides) refl))
+      (own-accepts t n m s x random Q g (built-file x n filled fits is (h .first) (h .last)) (h .decides) refl))
 
   kept : rulesOf (changed t n (stringOf r) .files) n ≡ stringOf r
   unfolding changed afterwards restrung padOut talking tapped filed
@@ -194,13 +203,13 @@ module _ (t : Tag) (n : ℕ) (r : Settings) (m : Mode) (h : Ready t n m) (e : me
       let o = one-string n r (h .first) (h .last) e in
       restored (t .files) (h .typed .rules) (h .typed .lens) n (stringOf r) (o .good) n refl (small n (h .first) (h .last)) ∙ o .own
 
-  reply-plain : (s : Session) (u : Tag) → replyOf (given u 0x9100 (closed s Plain 0 [])) ≡ 0x91 ∷ 0x00 ∷ []
+  reply-plain : (k : ℕ) (s : Session) (u : Tag) → replyOf (givenFor k u 0x9100 (closed s Plain 0 [])) ≡ 0x91 ∷ 0x00 ∷ []
   unfolding replyOf withStatus closed signed sent
-  reply-plain s u = refl
+  reply-plain k s u = refl
 
-  reply-full : (s : Session) (u : Tag) → replyOf (given u 0x9100 (closed s Full 0 [])) ≡ messageMac s 0 [] ++ 0x91 ∷ 0x00 ∷ []
+  reply-full : (k : ℕ) (s : Session) (u : Tag) → replyOf (givenFor k u 0x9100 (closed s Full 0 [])) ≡ messageMac s 0 [] ++ 0x91 ∷ 0x00 ∷ []
   unfolding replyOf withStatus closed signed sent
-  reply-full s u = refl
+  reply-full k s u = refl
 
   plain-command : changing t Plain n (stringOf r) ≡ 0x90 ∷ 0x5F ∷ 0 ∷ 0 ∷ (1 + length (stringOf r)) ∷ n ∷ (stringOf r ++ 0 ∷ [])
   unfolding changing carried built sentCommand signed sent
@@ -213,9 +222,11 @@ module _ (t : Tag) (n : ℕ) (r : Settings) (m : Mode) (h : Ready t n m) (e : me
   full-command = refl
 
   reply-in : (k : Mode) → m ≡ k
-      → replyOf (answered t (changing t m n (stringOf r)) random) ≡ replyOf (given (changed t n (stringOf r)) 0x9100 (closed (sessionOf (raised (t .live))) k 0 []))
+      → replyOf (answered t (changing t m n (stringOf r)) random)
+      ≡ replyOf (givenFor (changeCost t k n (stringOf r)) (changed t n (stringOf r)) 0x9100 (closed (sessionOf (raised (t .live))) k 0 []))
   reply-in k q =
-      ap replyOf reach ∙ ap (λ j. replyOf (given (changed t n (stringOf r)) 0x9100 (closed (sessionOf (raised (t .live))) j 0 []))) q
+      let s = stringOf r in
+      ap replyOf reach ∙ ap (λ j. replyOf (givenFor (changeCost t j n s) (changed t n s) 0x9100 (closed (sessionOf (raised (t .live))) j 0 []))) q
 
   in-due : UnderKey t n (stringOf r) m random ⊎ UnderE t n (stringOf r) m random
   unfolding changeOf
@@ -229,7 +240,7 @@ module _ (t : Tag) (n : ℕ) (r : Settings) (m : Mode) (h : Ready t n m) (e : me
         mode = g .mode;
         command = ap (λ k. changing t k n (stringOf r)) (g .mode) ∙ full-command;
         counted = raised-one (t .live) (g .on) (h .counter (g .on));
-        reply = reply-in Full (g .mode) ∙ reply-full (sessionOf (raised (t .live))) (changed t n (stringOf r));
+        reply = reply-in Full (g .mode) ∙ reply-full (changeCost t Full n (stringOf r)) (sessionOf (raised (t .live))) (changed t n (stringOf r));
       }))
       (λ g.
       inr
@@ -237,7 +248,7 @@ module _ (t : Tag) (n : ℕ) (r : Settings) (m : Mode) (h : Ready t n m) (e : me
         right = g .right;
         mode = g .mode;
         command = ap (λ k. changing t k n (stringOf r)) (g .mode) ∙ plain-command;
-        reply = reply-in Plain (g .mode) ∙ reply-plain (sessionOf (raised (t .live))) (changed t n (stringOf r));
+        reply = reply-in Plain (g .mode) ∙ reply-plain (changeCost t Plain n (stringOf r)) (sessionOf (raised (t .live))) (changed t n (stringOf r));
       }))
       (change-due (t .live) (readingIn (t .files) n .settings .head) m (h .allowed) (h .decides))
 

@@ -66,7 +66,8 @@ module _ (t : Tag) (c random : List ℕ) (class : byteAt c 0 ≡ 0x90) (command 
   read-answer : accepting (answered t c random .status) ≡ true → answered t c random .text ≡ readText t (byteAt (commandData c) 0) (rulesOf (t .files) (byteAt (commandData c) 0))
   unfolding commanded n
   read-answer =
-      comes t random P refused GetFileSettings c n class (ap (named 0x90) command ∙ read-known) file-is (λ k r x. refl) (λ z a p o. own-read p)
+      comes t random P refused GetFileSettings c n class (ap (named 0x90) command ∙ read-known) file-is (λ k r x. refl) (λ a h. h)
+      (λ z a p o. own-read p)
 
 -- whatever tag answers GetFileSettings of file n gives 00, FileOption, rights, size and the rest of the string that it holds
 pub read-alike : (t : Tag) (n : ℕ) (c random : List ℕ) → asksSettings c n ≡ true → accepting (answered t c random .status) ≡ true

@@ -8,7 +8,7 @@ use Rattle.tag.specs.Way.{noted}
 use Rattle.tag.specs.Call.{outcomeOf, replied, unanswered}
 use Rattle.series.specs.Series.{accepting, accepts, step, after}
 use Rattle.series.specs.Worked.{selectApplication, settingsOf, inApplication}
-use Rattle.series.proofs.Computing.{a-call, a-state, a-fresh-tag, soundness}
+use Rattle.series.proofs.Computing.{a-call, a-cost, a-state, a-fresh-tag, soundness}
 use Rattle.demands.specs.Talks.{said, saidAll, isChange, stringIn, changes, lastChange, stringOfReply, delivered, telling}
 use Rattle.demands.specs.Reaching.{built, carried, changing}
 use Rattle.demands.specs.Samples.{tagOf, sample, someUid, changeable, misnamed, short, zeros20, zeros258, calling, changeOfFile, changeTo, toldOf, changeFive}
@@ -20,7 +20,7 @@ unfolding tagOf sample someUid changeable misnamed zeros20 zeros258 calling chan
 a-sample = true
 
 pub forms : Forms
-unfolding a-sample a-call soundness selectApplication settingsOf telling said saidAll stringIn
+unfolding a-sample a-call a-cost soundness selectApplication settingsOf telling said saidAll stringIn
 forms =
     record {
       accepts-02 = refl;

@@ -68,6 +68,7 @@ keeps-kinds t c random n other =
       reads-iso = λ m at count. refl;
       moves = λ application. refl;
       selects = λ m h. way (Keeps t n) (t .place .application) (λ e. refl) (λ e. refl);
+      costs = λ k a e. e;
     }
   where
     sent : {m : ℕ} {p : List ℕ} {mode : Mode} → Sent t c m p mode → and (eqb (byteAt c 0) 0x90) (eqb (byteAt c 1) 0x5F) ≡ true
@@ -84,15 +85,15 @@ never true x y = refl
 never false x y = refl
 
 module _ (t : Tag) (f : Fine t) (c random : List ℕ) (n : ℕ) (small : slotOf n ≤ 2) where
-  put : (a : Answer) → Changed t c a
-      → rulesOf (a .tag .files) n ≡ pick (eqb (byteAt (commandData c) 0) n) (normal (stringIn t c)) (rulesOf (t .files) n)
+  put : (u : Tag) → Changed t c u
+      → rulesOf (u .files) n ≡ pick (eqb (byteAt (commandData c) 0) n) (normal (stringIn t c)) (rulesOf (t .files) n)
   unfolding padOut
-  put a h =
+  put u h =
       let m = byteAt (commandData c) 0 in
       let w = withRules (t .files) m (padOut (h .text)) (length (h .text)) in
       let before = readingIn (t .files) m .settings .head .sdm in
-      let e : rulesOf (a .tag .files) n ≡ rulesOf w n =
-      ap (λ x. rulesOf (x .tag .files) n) (h .is) ∙ ap (λ g. g n) (changed-rules t before (sdmOn (h .text)) w (h .mode)) in
+      let e : rulesOf (u .files) n ≡ rulesOf w n =
+      ap (λ (x : Tag). rulesOf (x .files) n) (h .is) ∙ ap (λ g. g n) (changed-rules t before (sdmOn (h .text)) w (h .mode)) in
       e ∙ by (eqb m n) refl
     where
       by : (b : Bool) → eqb (byteAt (commandData c) 0) n ≡ b
@@ -118,7 +119,7 @@ module _ (t : Tag) (f : Fine t) (c random : List ℕ) (n : ℕ) (small : slotOf 
       by false command fair p q r = every-answer t c random (Keeps t n) (keeps-kinds t c random n (rw p refl))
       by true false fair p q r = every-answer t c random (Keeps t n) (keeps-kinds t c random n (rw (p, q) refl))
       by true true true p q r =
-          put (answered t c random) (accepted-change t c random (eqb-true (byteAt c 0) 0x90 p) (eqb-true (byteAt c 1) 0x5F q) r)
+          put (answered t c random .tag) (accepted-change t c random (eqb-true (byteAt c 0) 0x90 p) (eqb-true (byteAt c 1) 0x5F q) r)
           ∙ also (eqb (byteAt (commandData c) 0) n)
         where
           also : (b : Bool) → pick b (normal (stringIn t c)) (rulesOf (t .files) n) ≡ pick (and b true) (normal (stringIn t c)) (rulesOf (t .files) n)

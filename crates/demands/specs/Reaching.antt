@@ -9,8 +9,8 @@ use Rattle.base.specs.Bytes.{over}
 use Rattle.messaging.specs.declared.Mode.{Mode}
 use Rattle.messaging.specs.declared.Mode.the-variants.{Plain, Full}
 use Rattle.messaging.specs.Protect.{messageMac}
-use Rattle.opening.specs.Command.{sentCommand}
-use Rattle.closing.specs.Reply.{closed}
+use Rattle.opening.specs.Command.{sentCommand, openingCost}
+use Rattle.closing.specs.Reply.{closed, closedCost}
 use Rattle.fields.specs.declared.Settings.{Settings}
 use Rattle.fields.specs.Fields.{sdmOn, readOf, stringOf}
 use Rattle.fields.specs.Normal.{normal}
@@ -20,7 +20,7 @@ use Rattle.state.specs.declared.Tag.{Tag}
 use Rattle.state.specs.State.{rulesOf, readingIn, sessionOf}
 use Rattle.access.specs.Access.{grantFor, decided}
 use Rattle.soundness.specs.Sound.{soundTag}
-use Rattle.replies.specs.Answer.{given, afterwards, raised}
+use Rattle.replies.specs.Answer.{givenFor, afterwards, raised}
 use Rattle.change_settings.specs.ChangeSettings.{withRules, restrung}
 use Rattle.tag.specs.declared.Outcome.the-variants.{Replied}
 use Rattle.tag.specs.Way.{answered}
@@ -38,6 +38,10 @@ changeOf t n = readingIn (t .files) n .settings .head .change
 -- what the other side sends: ChangeFileSettings of file n, its data the string in the mode, under the session's keys
 unfoldable pub carried : Tag → Mode → ℕ → List ℕ → List ℕ
 carried t m n s = sentCommand (sessionOf (t .live)) m 0x5F (n ∷ []) true s
+
+-- 02, request 10: what opening it costs, and closing its reply, which has no data
+unfoldable pub changeCost : Tag → Mode → ℕ → List ℕ → ℕ
+changeCost t m n s = openingCost (sessionOf (t .live)) m 0x5F (carried t m n s) 1 true + closedCost m 0
 
 unfoldable pub changing : Tag → Mode → ℕ → List ℕ → List ℕ
 changing t m n s = built 0x5F (carried t m n s)
@@ -85,7 +89,7 @@ pub record Reached (t : Tag) (n : ℕ) (r : Settings) (m : Mode) (random room : 
   pub string : OneString n r (stringOf r)
   pub answers : outcomeOf t random room ≡ Replied
   pub accepts : answered t (changing t m n (stringOf r)) random
-      ≡ given (changed t n (stringOf r)) 0x9100 (closed (sessionOf (raised (t .live))) m 0 [])
+      ≡ givenFor (changeCost t m n (stringOf r)) (changed t n (stringOf r)) 0x9100 (closed (sessionOf (raised (t .live))) m 0 [])
   pub room-holds : roomBy (answered t (changing t m n (stringOf r)) random) room (outcomeOf t random room)
       ≡ over (replyOf (answered t (changing t m n (stringOf r)) random)) room
   pub due : UnderKey t n (stringOf r) m random ⊎ UnderE t n (stringOf r) m random

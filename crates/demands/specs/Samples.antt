@@ -109,11 +109,12 @@ changeTo option = changeOfFile 2 option
 abbrev pub changedBy : Tag → ℕ → Answer
 changedBy t option = answered t (changeTo option) zeros20
 
--- what `telling 2` is answered by a tag whose file 2 has that FileOption: 9000; 00, the string with its size, 9100; both under none of the rights
+-- what `telling 2` is answered by a tag whose file 2 has that FileOption: 9000; 00, the string with its size, 9100; both under none of the rights,
+-- and for no blocks
 unfoldable pub toldOf : ℕ → List Said
 toldOf option =
-    record { outcome = Replied; reply = 0x90 ∷ 0x00 ∷ []; noted = Decided Unasked }
-    ∷ record { outcome = Replied; reply = 0x00 ∷ option ∷ 0xEE ∷ 0xEE ∷ 0x00 ∷ 0x01 ∷ 0x00 ∷ 0x91 ∷ 0x00 ∷ []; noted = Decided Unasked }
+    record { outcome = Replied; reply = 0x90 ∷ 0x00 ∷ []; noted = Decided Unasked; cost = 0 }
+    ∷ record { outcome = Replied; reply = 0x00 ∷ option ∷ 0xEE ∷ 0xEE ∷ 0x00 ∷ 0x01 ∷ 0x00 ∷ 0x91 ∷ 0x00 ∷ []; noted = Decided Unasked; cost = 0 }
     ∷ []
 
 -- ---- demand 3, statement 1: two strings with one normal form (mode bits 10 and 00), and one with another (11)

@@ -26,15 +26,16 @@ use Rattle.order.specs.Order.{commandData}
 use Rattle.order.specs.Commands.{wrappedCommand}
 use Rattle.wrapped.specs.Wrapped.{openingOf}
 use Rattle.tag.specs.Way.{answered, noted}
-use Rattle.tag.specs.Call.{replyOf, outcomeOf, notedBy, Calls}
+use Rattle.tag.specs.Call.{replyOf, outcomeOf, notedBy, costBy, Calls}
 use Rattle.series.specs.Series.{Asked, step, after, accepts}
 use Rattle.series.specs.Worked.{selectApplication, settingsOf}
 
--- what a call says: its outcome, the reply, none where it is refused, and what a journal notes of it
+-- what a call says: its outcome, the reply, none where it is refused, and what a journal notes of it, with how many blocks it cost
 pub record Said : Type 0 where
   pub outcome : Outcome
   pub reply : List ℕ
   pub noted : Noted
+  pub cost : ℕ
 
 abbrev pub heard : Answer → Outcome → List ℕ
 heard a Replied = replyOf a
@@ -45,7 +46,8 @@ heard a Unsound = []
 unfoldable pub said : Tag → Asked → Said
 said t a =
     let o = outcomeOf t (a .random) (a .room) in
-    record { outcome = o; reply = heard (answered t (a .command) (a .random)) o; noted = notedBy (noted t (a .command)) o }
+    let x = answered t (a .command) (a .random) in
+    record { outcome = o; reply = heard x o; noted = notedBy (noted t (a .command)) o; cost = costBy x o }
 
 unfoldable pub saidAll : Tag → List Asked → List Said
 saidAll t [] = []
@@ -61,11 +63,12 @@ pub record Had : Type 0 where
   pub result : Called
   pub room : List ℕ
 
--- what that says: the outcome, as many bytes of the room as the length says, and what is noted
+-- what that says: the outcome, as many bytes of the room as the length says, what is noted, and what it cost
 abbrev pub saying : Had → Said
-saying h = record { outcome = h .result .outcome; reply = take (h .result .length) (h .room); noted = h .result .noted }
+saying h =
+    record { outcome = h .result .outcome; reply = take (h .result .length) (h .room); noted = h .result .noted; cost = h .result .cost }
 
--- the next state is that of `step`, outcome, reply and what is noted are those of `said`, and the rest of the room is as it was
+-- the next state is that of `step`, outcome, reply, what is noted and the cost are those of `said`, and the rest of the room is as it was
 pub record Speaks (t : Tag) (a : Asked) (h : Had) : Type 0 where
   pub state : h .result .tag ≡ step t a
   pub says : saying h ≡ said t a

@@ -1,7 +1,7 @@
 -- Each public function of the floors from base to mirror: its promise, as the source states it, determines the result and the lent room.
 use mathlib.Core.Bool.{Bool, not}
 use mathlib.Core.List.{List}
-use mathlib.Core.Path.{_≡_}
+use mathlib.Core.Path.{_≡_, sym, _∙_}
 use Prim.Native.Nat.{ℕ, _/_, _%_}
 use lib.Dec.{leb}
 use lib.ListN.{length, take}
@@ -11,11 +11,13 @@ use Rattle.sbox.specs.Tables.{invSbox, sbox}
 use Rattle.sbox.specs.Words.{mixingTable, unmixingTable, packed}
 use Rattle.words.specs.Words.{blockOf, columnOf, pickedOf, wordsOf}
 use Rattle.key_expansion.specs.Keys.{keyExpansion}
-use Rattle.aes.specs.Block.{cipher, invCipher, xorBlock}
+use Rattle.aes.specs.Block.{blockCost, cipher, ciphered, invCipher, xorBlock}
+use Rattle.aes.specs.declared.Ciphered.{Ciphered}
 use Rattle.aes.specs.ByTables.{Deciphers, Enciphers}
 use Rattle.cbc.specs.Cbc.{Chains, blockAt, cbcBack, cbcOut}
-use Rattle.cbc.specs.declared.Chained.{Chained}
-use Rattle.cmac.specs.Cmac.{cmac, evenPlaces, mac}
+use Rattle.cbc.specs.declared.Chain.{Chain}
+use Rattle.cmac.specs.Cmac.{cmac, cmacCost, evenPlaces, mac, truncated}
+use Rattle.cmac.specs.declared.Truncated.{Truncated}
 use Rattle.fields.specs.Fields.{hasCounter, hasEnc, hasMac, hasPicc, hasUid, headOf, listed, placesIn, present, readOf, sdmOn, sizeOf}
 use Rattle.fields.specs.declared.Head.{Head}
 use Rattle.fields.specs.declared.Places.{Places}
@@ -38,33 +40,35 @@ use Rattle.normalising.specs.declared.Normalised.{Normalised}
 use Rattle.writing.specs.Answers.{writingNumber, writtenAs, writtenNumber, writtenRoom}
 use Rattle.writing.specs.declared.Written.{Written}
 use Rattle.crc.specs.Crc.{crc}
-use Rattle.sdm.specs.Tap.{Hides, piccData, tapIv, tapKeys}
+use Rattle.sdm.specs.Tap.{Hides, piccCost, piccData, tapEncKey, tapIv, tapIvCost, tapKeyCost, tapMacKey}
+use Rattle.sdm.specs.declared.Hidden.{Hidden}
 use Rattle.sdm.specs.declared.Tap.{Tap}
-use Rattle.sdm.specs.declared.TapKeys.{TapKeys}
-use Rattle.authentication.specs.Authentication.{enciphered, firstReply, nextReply, partTwo}
+use Rattle.authentication.specs.Authentication.{enciphered, firstReply, firstReplyCost, nextReply, nextReplyCost, paired, partOneCost, partTwo}
+use Rattle.authentication.specs.declared.Pair.{Pair}
 use Rattle.authentication.specs.declared.PartTwo.{PartTwo}
 use Rattle.session_keys.specs.Keys.{sessionKeys}
 use Rattle.session_keys.specs.declared.Keys.{Keys}
 use Rattle.padding.specs.Padding.{Pads, isPadded, unpad, unpaddedStatus}
 use Rattle.padding.specs.declared.Padded.{Padded}
 use Rattle.padding.specs.declared.Unpadded.{Unpadded}
-use Rattle.messaging.specs.Protect.{commandIv, commandVector, messageMac, replyIv, replyVector}
+use Rattle.messaging.specs.Protect.{commandIv, commandVector, messageMac, messageMacCost, replyIv, replyVector, vectorCost}
 use Rattle.messaging.specs.declared.Mode.{Mode}
 use Rattle.messaging.specs.declared.Session.{Session}
 use Rattle.closing.specs.Reply.{Closes, overlong}
-use Rattle.closing.specs.declared.Closed.{Closed}
-use Rattle.opening.specs.Command.{Opens, opening}
-use Rattle.opening.specs.declared.Opened.{Opened}
+use Rattle.closing.specs.declared.ClosedFor.{ClosedFor}
+use Rattle.opening.specs.Command.{Opens, opening, openingCost}
+use Rattle.opening.specs.declared.OpenedFor.{OpenedFor}
 use Rattle.lines.specs.Hex.{charOf, charsRoom, decoded, decodedNumber, decodedRoom, digitOf, isHex}
 use Rattle.lines.specs.Lines.{seek}
 use Rattle.lines.specs.declared.Decoded.{Decoded}
-use Rattle.mirror.specs.Mirrors.{dynamicData}
+use Rattle.mirror.specs.Mirrors.{dynamicCost, dynamicData, overlaid}
 use Rattle.mirror.specs.declared.Mirror.{Mirror}
+use Rattle.mirror.specs.declared.Overlaid.{Overlaid}
 use Rattle.determined.specs.Determining.{Determined, DeterminedIn}
 use Rattle.rules.specs.declared.Examined.{Examined}
 use Rattle.settings.specs.declared.Seen.{Seen}
 use Rattle.fields.specs.Normal.{normal}
-use Rattle.determined.proofs.Determined.{once, twice, chains-once, pads-once, opens-once, closes-once, hides-once}
+use Rattle.determined.proofs.Determined.{once, twice, ciphered-once, chains-once, pads-once, opens-once, closes-once, hides-once}
 
 -- ---- base
 pub at-determined : (s : List ℕ) (i : ℕ) → Determined (λ (r : ℕ). r ≡ byteAt s i)
@@ -110,17 +114,17 @@ pub expand-determined : (key : List ℕ) → Determined (λ (r : List (List ℕ)
 expand-determined key = once
 
 -- ---- aes
-pub decrypt-determined : (w : List (List ℕ)) (s : List ℕ) → Determined (λ (r : List ℕ). r ≡ invCipher w s)
+pub decrypt-determined : (w : List (List ℕ)) (s : List ℕ) → Determined (λ (r : Ciphered). r ≡ ciphered (invCipher w s) blockCost)
 decrypt-determined w s = once
 
-pub decrypt-with-determined : (v u : List ℕ) (w : List (List ℕ)) (s : List ℕ) → Determined (λ (r : List ℕ). Deciphers v u w s r)
-decrypt-with-determined v u w s r q p h = once r q (p .by) (h .by)
+pub decrypt-with-determined : (v u : List ℕ) (w : List (List ℕ)) (s : List ℕ) → Determined (λ (r : Ciphered). Deciphers v u w s r)
+decrypt-with-determined v u w s r q p h = ciphered-once r q (p .by ∙ sym (h .by)) (p .cost ∙ sym (h .cost))
 
-pub encrypt-determined : (w : List (List ℕ)) (s : List ℕ) → Determined (λ (r : List ℕ). r ≡ cipher w s)
+pub encrypt-determined : (w : List (List ℕ)) (s : List ℕ) → Determined (λ (r : Ciphered). r ≡ ciphered (cipher w s) blockCost)
 encrypt-determined w s = once
 
-pub encrypt-with-determined : (t : List ℕ) (w : List (List ℕ)) (s : List ℕ) → Determined (λ (r : List ℕ). Enciphers t w s r)
-encrypt-with-determined t w s r q p h = once r q (p .by) (h .by)
+pub encrypt-with-determined : (t : List ℕ) (w : List (List ℕ)) (s : List ℕ) → Determined (λ (r : Ciphered). Enciphers t w s r)
+encrypt-with-determined t w s r q p h = ciphered-once r q (p .by ∙ sym (h .by)) (p .cost ∙ sym (h .cost))
 
 pub xor-block-determined : (a b : List ℕ) → Determined (λ (r : List ℕ). r ≡ xorBlock a b)
 xor-block-determined a b = once
@@ -129,19 +133,17 @@ xor-block-determined a b = once
 pub load-determined : (s : List ℕ) (at : ℕ) → Determined (λ (r : List ℕ). r ≡ blockAt s at)
 load-determined s at = once
 
-pub cbc-encrypt-determined : (w : List (List ℕ)) (iv buf : List ℕ)
-    → DeterminedIn (λ (r : Chained) (new : List ℕ). Chains (cbcOut w iv) buf r new)
+pub cbc-encrypt-determined : (w : List (List ℕ)) (iv buf : List ℕ) → DeterminedIn (λ (r : Chain) (new : List ℕ). Chains (cbcOut w iv) buf r new)
 cbc-encrypt-determined w iv buf = chains-once
 
-pub cbc-decrypt-determined : (w : List (List ℕ)) (iv buf : List ℕ)
-    → DeterminedIn (λ (r : Chained) (new : List ℕ). Chains (cbcBack w iv) buf r new)
+pub cbc-decrypt-determined : (w : List (List ℕ)) (iv buf : List ℕ) → DeterminedIn (λ (r : Chain) (new : List ℕ). Chains (cbcBack w iv) buf r new)
 cbc-decrypt-determined w iv buf = chains-once
 
 -- ---- cmac
-pub cmac-of-determined : (w : List (List ℕ)) (s : List ℕ) → Determined (λ (r : List ℕ). r ≡ cmac w s)
+pub cmac-of-determined : (w : List (List ℕ)) (s : List ℕ) → Determined (λ (r : Ciphered). r ≡ ciphered (cmac w s) (cmacCost (length s)))
 cmac-of-determined w s = once
 
-pub mac-of-determined : (w : List (List ℕ)) (s : List ℕ) → Determined (λ (r : List ℕ). r ≡ evenPlaces (cmac w s))
+pub mac-of-determined : (w : List (List ℕ)) (s : List ℕ) → Determined (λ (r : Truncated). r ≡ truncated (evenPlaces (cmac w s)) (cmacCost (length s)))
 mac-of-determined w s = once
 
 -- ---- truth
@@ -255,33 +257,35 @@ pub crc-of-determined : (s : List ℕ) → Determined (λ (r : List ℕ). r ≡ 
 crc-of-determined s = once
 
 -- ---- sdm
-pub picc-data-determined : (key : List ℕ) (t : Tap) (padding : List ℕ) → Determined (λ (r : List ℕ). r ≡ piccData key t padding)
+pub picc-data-determined : (key : List ℕ) (t : Tap) (padding : List ℕ) → Determined (λ (r : Ciphered). r ≡ ciphered (piccData key t padding) piccCost)
 picc-data-determined key t padding = once
 
-pub tap-encrypt-determined : (key : List ℕ) (counter : ℕ) (text : List ℕ)
-    → DeterminedIn (λ (r : Bool) (new : List ℕ). Hides key counter text r new)
+pub tap-encrypt-determined : (key : List ℕ) (counter : ℕ) (text : List ℕ) → DeterminedIn (λ (r : Hidden) (new : List ℕ). Hides key counter text r new)
 tap-encrypt-determined key counter text = hides-once
 
-pub tap-iv-determined : (key : List ℕ) (counter : ℕ) → Determined (λ (r : List ℕ). r ≡ tapIv key counter)
+pub tap-iv-determined : (key : List ℕ) (counter : ℕ) → Determined (λ (r : Ciphered). r ≡ ciphered (tapIv key counter) tapIvCost)
 tap-iv-determined key counter = once
 
-pub tap-keys-determined : (key : List ℕ) (t : Tap) → Determined (λ (r : TapKeys). r ≡ tapKeys key t)
-tap-keys-determined key t = once
+pub tap-enc-key-determined : (key : List ℕ) (t : Tap) → Determined (λ (r : Ciphered). r ≡ ciphered (tapEncKey key t) tapKeyCost)
+tap-enc-key-determined key t = once
 
-pub tap-mac-determined : (key text : List ℕ) → Determined (λ (r : List ℕ). r ≡ mac key text)
+pub tap-mac-key-determined : (key : List ℕ) (t : Tap) → Determined (λ (r : Ciphered). r ≡ ciphered (tapMacKey key t) tapKeyCost)
+tap-mac-key-determined key t = once
+
+pub tap-mac-determined : (key text : List ℕ) → Determined (λ (r : Truncated). r ≡ truncated (mac key text) (cmacCost (length text)))
 tap-mac-determined key text = once
 
 -- ---- authentication
-pub part-one-determined : (kx b : List ℕ) → Determined (λ (r : List ℕ). r ≡ enciphered kx b)
+pub part-one-determined : (kx b : List ℕ) → Determined (λ (r : Ciphered). r ≡ ciphered (enciphered kx b) partOneCost)
 part-one-determined kx b = once
 
 pub check-part-two-determined : (kx b x : List ℕ) → Determined (λ (r : PartTwo). r ≡ partTwo kx b x)
 check-part-two-determined kx b x = once
 
-pub first-reply-determined : (kx ti a cap : List ℕ) → Determined (λ (r : List ℕ). r ≡ firstReply kx ti a cap)
+pub first-reply-determined : (kx ti a cap : List ℕ) → Determined (λ (r : Pair). r ≡ paired (firstReply kx ti a cap) firstReplyCost)
 first-reply-determined kx ti a cap = once
 
-pub next-reply-determined : (kx a : List ℕ) → Determined (λ (r : List ℕ). r ≡ nextReply kx a)
+pub next-reply-determined : (kx a : List ℕ) → Determined (λ (r : Ciphered). r ≡ ciphered (nextReply kx a) nextReplyCost)
 next-reply-determined kx a = once
 
 -- ---- session_keys
@@ -297,24 +301,25 @@ pub unpad-determined : (s : List ℕ)
 unpad-determined s r q p h = once r q (p .0) (h .0)
 
 -- ---- messaging
-pub command-iv-determined : (s : Session) → Determined (λ (r : List ℕ). r ≡ commandIv s)
+pub command-iv-determined : (s : Session) → Determined (λ (r : Ciphered). r ≡ ciphered (commandIv s) vectorCost)
 command-iv-determined s = once
 
-pub command-vector-determined : (w : List (List ℕ)) (s : Session) → Determined (λ (r : List ℕ). r ≡ commandVector w s)
+pub command-vector-determined : (w : List (List ℕ)) (s : Session) → Determined (λ (r : Ciphered). r ≡ ciphered (commandVector w s) vectorCost)
 command-vector-determined w s = once
 
-pub message-mac-determined : (s : Session) (first : ℕ) (body : List ℕ) → Determined (λ (r : List ℕ). r ≡ messageMac s first (take 293 body))
+pub message-mac-determined : (s : Session) (first : ℕ) (body : List ℕ)
+    → Determined (λ (r : Truncated). r ≡ truncated (messageMac s first (take 293 body)) (messageMacCost (length (take 293 body))))
 message-mac-determined s first body = once
 
-pub reply-iv-determined : (s : Session) → Determined (λ (r : List ℕ). r ≡ replyIv s)
+pub reply-iv-determined : (s : Session) → Determined (λ (r : Ciphered). r ≡ ciphered (replyIv s) vectorCost)
 reply-iv-determined s = once
 
-pub reply-vector-determined : (w : List (List ℕ)) (s : Session) → Determined (λ (r : List ℕ). r ≡ replyVector w s)
+pub reply-vector-determined : (w : List (List ℕ)) (s : Session) → Determined (λ (r : Ciphered). r ≡ ciphered (replyVector w s) vectorCost)
 reply-vector-determined w s = once
 
 -- ---- closing
 pub close-determined : (s : Session) (m : Mode) (code : ℕ) (room : List ℕ) (n : ℕ)
-    → DeterminedIn (λ (r : Closed) (new : List ℕ). Closes s m code n room r new)
+    → DeterminedIn (λ (r : ClosedFor) (new : List ℕ). Closes s m code n room r new)
 close-determined s m code room n = closes-once
 
 pub too-long-determined : (m : Mode) (n : ℕ) → Determined (λ (r : Bool). r ≡ overlong m n)
@@ -322,7 +327,7 @@ too-long-determined m n = once
 
 -- ---- opening
 pub open-determined : (s : Session) (m : Mode) (cmd : ℕ) (x : List ℕ) (h : ℕ) (there : Bool) (room : List ℕ)
-    → DeterminedIn (λ (r : Opened) (new : List ℕ). Opens x (opening s m cmd x h there) room r new)
+    → DeterminedIn (λ (r : OpenedFor) (new : List ℕ). Opens x (opening s m cmd x h there) (openingCost s m cmd x h there) room r new)
 open-determined s m cmd x h there room = opens-once
 
 -- ---- lines
@@ -347,5 +352,5 @@ pub encode-determined : (s room : List ℕ) → Determined (λ (new : List ℕ).
 encode-determined s room = once
 
 -- ---- mirror
-pub lay-determined : (file : List ℕ) (r : Reading) (m : Mirror) → SpansFit r → Determined (λ (f : List ℕ). f ≡ dynamicData file r m)
+pub lay-determined : (file : List ℕ) (r : Reading) (m : Mirror) → SpansFit r → Determined (λ (f : Overlaid). f ≡ overlaid (dynamicData file r m) (dynamicCost r))
 lay-determined file r m asked = once

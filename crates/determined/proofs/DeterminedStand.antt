@@ -152,9 +152,9 @@ pub append-form-determined : (form numbers : List ℕ) (flags : List Bool) (room
 append-form-determined form numbers flags room n = append-determined (formOf true form numbers flags) room n
 
 -- ---- telling
-pub line-text-determined : (number : ℕ) (m : Meaning) (c reply : List ℕ) (why : Why) (e : List ℕ) (undrawn unmet : Bool) (room : List ℕ)
-    → DeterminedIn (λ (r : ℕ) (new : List ℕ). Lays (lineText number m c reply why e undrawn unmet) 0 room r new)
-line-text-determined number m c reply why e undrawn unmet room = append-determined (lineText number m c reply why e undrawn unmet) room 0
+pub line-text-determined : (number : ℕ) (m : Meaning) (c reply : List ℕ) (why : Why) (blocks : ℕ) (e : List ℕ) (undrawn unmet : Bool) (room : List ℕ)
+    → DeterminedIn (λ (r : ℕ) (new : List ℕ). Lays (lineText number m c reply why blocks e undrawn unmet) 0 room r new)
+line-text-determined number m c reply why blocks e undrawn unmet room = append-determined (lineText number m c reply why blocks e undrawn unmet) room 0
 
 -- ---- tallies
 pub counted-determined : (n : Tally) (number : ℕ) (w : Went) → Determined (λ (r : Tally). r ≡ countedBy n number w)

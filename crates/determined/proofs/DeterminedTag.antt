@@ -17,7 +17,7 @@ use Rattle.state.specs.declared.Pending.{Pending}
 use Rattle.state.specs.declared.Tag.{Tag}
 use Rattle.state.specs.declared.Tapping.{Tapping}
 use Rattle.order.specs.Order.{keyStatus}
-use Rattle.replies.specs.Answer.{Gives, accepted, afterwards, given, refusal, roomGiven}
+use Rattle.replies.specs.Answer.{Gives, accepted, afterwards, givenFor, refusal, roomGiven}
 use Rattle.replies.specs.declared.Done.{Done}
 use Rattle.replies.specs.declared.Excerpt.{Excerpt}
 use Rattle.auth.specs.Parts.{partOneFirst, partOneNext}
@@ -95,8 +95,8 @@ pub key-status-determined : (k : ℕ) → Determined (λ (r : ℕ). r ≡ keySta
 key-status-determined k = once
 
 -- ---- replies
-pub give-text-determined : (tag : Tag) (status : ℕ) (e : List ℕ) → DeterminedText (λ (r : Done). Gives (roomGiven tag status e) r)
-give-text-determined tag status e = gives-once
+pub give-text-determined : (tag : Tag) (status : ℕ) (e : List ℕ) (cost : ℕ) → DeterminedText (λ (r : Done). Gives (roomGiven cost tag status e) r)
+give-text-determined tag status e cost = gives-once
 
 pub smaller-determined : (a b : ℕ) → Determined (λ (r : ℕ). r ≡ min a b)
 smaller-determined a b = once
@@ -104,9 +104,9 @@ smaller-determined a b = once
 pub refuse-determined : (tag : Tag) (status : ℕ) → DeterminedText (λ (r : Done). Gives (refusal tag status) r)
 refuse-determined tag status = gives-once
 
-pub give-determined : (tag : Tag) (status : ℕ) (bytes : List ℕ) (n : ℕ)
-    → DeterminedText (λ (r : Done). Gives (given tag status (take (min n 256) bytes)) r)
-give-determined tag status bytes n = gives-once
+pub give-determined : (tag : Tag) (status : ℕ) (bytes : List ℕ) (n cost : ℕ)
+    → DeterminedText (λ (r : Done). Gives (givenFor cost tag status (take (min n 256) bytes)) r)
+give-determined tag status bytes n cost = gives-once
 
 pub after-determined : (tag : Tag) → Determined (λ (r : Tag). r ≡ afterwards tag)
 after-determined tag = once

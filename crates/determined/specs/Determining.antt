@@ -31,6 +31,7 @@ pub record SameText (d e : Done) : Type 0 where
   pub count : d .length ≡ e .length
   pub text : take (d .length) (d .bytes) ≡ take (e .length) (e .bytes)
   pub tag : d .tag ≡ e .tag
+  pub cost : d .cost ≡ e .cost
 
 -- a promise over an answer, whose array has 258 bytes
 abbrev pub DeterminedText : (Done → Type 0) → Type 0

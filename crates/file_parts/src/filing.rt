@@ -45,7 +45,7 @@ pub fn read_stored_iso(tag: Tag, n: u8, at: usize, count: usize) -> Done
 {
     let p = file_part(tag.files, n, at, count);
     let bytes = p.bytes;
-    replies::give(replies::after(tag), 0x9000, bytes, p.length)
+    replies::give(replies::after(tag), 0x9000, bytes, p.length, 0)
 }
 
 // The files with other bytes from an offset of file n on.

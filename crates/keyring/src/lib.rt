@@ -85,7 +85,7 @@ pub fn change_key(tag: Tag, k: u8, p: &[u8]) -> Done
     if s == 0 {
         let t = keyed_with(tag, with_key(tag.secrets, k, new, base::at(p, 16)));
         if k == 0 {
-            return replies::give(state::ended(t), 0x9100, [0; 258], 0);
+            return replies::give(state::ended(t), 0x9100, [0; 258], 0, 0);
         }
         return replies::accept(t, Mode::Full, [0; 258], 0);
     }

@@ -5,9 +5,9 @@ use Prim.Native.Nat.{ℕ, _+_}
 use lib.ListN.{take, replicate}
 use Rattle.base.specs.Decide.{pick}
 use Rattle.base.specs.Bytes.{low, same}
-use Rattle.aes.specs.Block.{cipher}
-use Rattle.cbc.specs.Cbc.{cbcOut, cbcBack}
-use Rattle.cmac.specs.Cmac.{mac}
+use Rattle.aes.specs.Block.{cipher, blockCost}
+use Rattle.cbc.specs.Cbc.{cbcOut, cbcBack, cbcCost}
+use Rattle.cmac.specs.Cmac.{mac, cmacCost}
 use Rattle.key_expansion.specs.Keys.{keyExpansion}
 use Rattle.padding.specs.Padding.{padded, unpad}
 use Rattle.messaging.specs.declared.Session.{Session}
@@ -21,6 +21,10 @@ use Rattle.padding.specs.declared.Unpadded.the-variants.{Text, Wrong}
 unfoldable pub messageMac : Session → ℕ → List ℕ → List ℕ
 messageMac s first body = mac (s .mac) (first ∷ low 2 (s .counter) ++ s .ti ++ body)
 
+-- 02, request 10: what it costs, where header and data have n bytes: a CMAC of seven more
+unfoldable pub messageMacCost : ℕ → ℕ
+messageMacCost n = cmacCost (7 + n)
+
 -- 9.1.4: the vectors of a command's data and of a reply's, under round keys, and under the session's own
 unfoldable pub commandVector : List (List ℕ) → Session → List ℕ
 commandVector w s = cipher w (0xA5 ∷ 0x5A ∷ s .ti ++ low 2 (s .counter) ++ replicate 8 0)
@@ -33,6 +37,10 @@ commandIv s = commandVector (keyExpansion (s .enc)) s
 
 unfoldable pub replyIv : Session → List ℕ
 replyIv s = replyVector (keyExpansion (s .enc)) s
+
+-- 02, request 10: what a vector costs
+abbrev pub vectorCost : ℕ
+vectorCost = blockCost
 
 -- Table 69: the number of each mode in FileOption (crates/access/specs/Access.antt: fileMode)
 unfoldable pub modeNumber : Mode → ℕ
@@ -80,3 +88,15 @@ unfoldable pub macRight : Mode → Session → ℕ → List ℕ → List ℕ →
 macRight Plain s first body tag = true
 macRight Mac s first body tag = same tag (messageMac s first body)
 macRight Full s first body tag = same tag (messageMac s first body)
+
+-- ---- 02, request 10: what a message costs, where its part as sent has n bytes, and what its header and part of n bytes cost to sign. A part that
+-- isn't there has no vector
+unfoldable pub partCost : Mode → Bool → ℕ → ℕ
+partCost Plain there n = 0
+partCost Mac there n = 0
+partCost Full there n = pick there (vectorCost + cbcCost n) 0
+
+unfoldable pub signedCost : Mode → ℕ → ℕ
+signedCost Plain n = 0
+signedCost Mac n = messageMacCost n
+signedCost Full n = messageMacCost n

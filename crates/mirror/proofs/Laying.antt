@@ -1,21 +1,19 @@
 -- Laws of the mirrors as they are laid, for the functions that lay them.
 use mathlib.Core.Path.{_≡_, refl, sym, ap, ap₂, _∙_}
-use mathlib.Core.Bool.{Bool, true, false}
+use mathlib.Core.Bool.{true, false}
 use mathlib.Core.List.{List, [], _++_, append-nil}
 use Prim.Native.Nat.{ℕ, zero, suc, _+_, _-_, _*_, _/_, _≤_}
 use native.Mathlib.Omega.{arith}
 use lib.ListN.{length, take, drop, length-drop, drop-of-length-le}
 use lib.Seq.{drop-at, take-add, take-take, length-take-le}
 use borrow.Author.Tests.{le-leb}
-use Rattle.base.specs.Decide.{pick, or}
+use Rattle.base.specs.Decide.{pick}
 use Rattle.base.specs.Bytes.{over}
 use Rattle.lines.specs.Hex.{charsOf, charsRoom}
 use Rattle.lines.proofs.Steps.{chars-length}
 use Rattle.cbc.specs.Cbc.{across, sealed, cbcOut}
 use Rattle.spans.specs.declared.Span.{Span}
-use Rattle.spans.specs.declared.Reading.{Reading}
-use Rattle.mirror.specs.declared.Mirror.{Mirror}
-use Rattle.mirror.specs.Mirrors.{mirrorAt, stretch, withEnc, withMac}
+use Rattle.mirror.specs.Mirrors.{mirrorAt, stretch}
 
 -- ---- one mirror
 pub mirror-off : (s : Span) (bytes file : List ℕ) → s .present ≡ false → mirrorAt s bytes file ≡ file
@@ -74,15 +72,3 @@ enc-blocks w v a n file h =
 -- ---- MAC: of a start behind the end nothing is covered
 pub no-stretch : (a e : ℕ) (file : List ℕ) → e ≤ a → stretch a e file ≡ []
 no-stretch a e file h = let z : e - a ≡ 0 = omega arith in ap (λ n. take n (drop a file)) z
-
--- ---- where neither is present
-neither : (a b : Bool) → or a b ≡ false → (a ≡ false) × (b ≡ false)
-neither true b e = let z : _≡_ {A = ℕ} 0 1 = cc in absurd (omega arith)
-neither false b e = (refl, e)
-
-pub keyed-off : (r : Reading) (m : Mirror) (static file : List ℕ) → or (r .enc .present) (r .mac .present) ≡ false
-    → withMac r m (withEnc r m static file) ≡ file
-unfolding withMac withEnc
-keyed-off r m static file e =
-    let n = neither (r .enc .present) (r .mac .present) e in
-    mirror-off (r .mac) _ _ (n .1) ∙ mirror-off (r .enc) _ file (n .0)

@@ -1,3 +1,4 @@
+pub mod Costs
 pub mod Inside
 pub mod Laying
 pub mod Shape

@@ -7,11 +7,12 @@ use Rattle.base.specs.Bytes.{over}
 use Rattle.lines.specs.Hex.{charsOf}
 use Rattle.cbc.specs.Cbc.{cbcOut}
 use Rattle.key_expansion.specs.Keys.{keyExpansion}
-use Rattle.cmac.specs.Cmac.{mac}
-use Rattle.sdm.specs.Tap.{piccData, tapKeys, tapIv}
+use Rattle.cmac.specs.Cmac.{mac, cmacCost}
+use Rattle.sdm.specs.Tap.{piccData, piccCost, tapEncKey, tapMacKey, tapKeyCost, tapIv, hiddenCost}
 use Rattle.spans.specs.declared.Span.{Span}
 use Rattle.spans.specs.declared.Reading.{Reading}
 use Rattle.mirror.specs.declared.Mirror.{Mirror}
+use Rattle.mirror.specs.declared.Overlaid.{Overlaid}
 
 -- 9.3.3, EncodeASCII: bytes as capital hexadecimal over the file, where the mirror is present
 unfoldable pub mirrorAt : Span → List ℕ → List ℕ → List ℕ
@@ -43,14 +44,33 @@ encData key counter s static =
 
 unfoldable pub withEnc : Reading → Mirror → List ℕ → List ℕ → List ℕ
 withEnc r m static file =
-    mirrorAt (r .enc) (encData (tapKeys (m .«file_key») (m .tap) .enc) (m .tap .counter) (r .enc) static) file
+    mirrorAt (r .enc) (encData (tapEncKey (m .«file_key») (m .tap)) (m .tap .counter) (r .enc) static) file
 
 -- 9.3.8: SDMMAC of DynamicFileData, the mirrored file, from SDMMACInputOffset to before the MAC; under SesSDMFileReadMACKey
 unfoldable pub withMac : Reading → Mirror → List ℕ → List ℕ
 withMac r m dynamic =
-    mirrorAt (r .mac) (mac (tapKeys (m .«file_key») (m .tap) .mac) (stretch (r .settings .places .input) (r .mac .start) dynamic)) dynamic
+    mirrorAt (r .mac) (mac (tapMacKey (m .«file_key») (m .tap)) (stretch (r .settings .places .input) (r .mac .start) dynamic)) dynamic
 
 -- the file as a tap shows it: every mirror, the MAC over all others
 unfoldable pub dynamicData : List ℕ → Reading → Mirror → List ℕ
 dynamicData static r m =
     withMac r m (withEnc r m static (withPicc r m (withCounter r m (withUid r m static))))
+
+-- ---- 02, request 10: what the mirrors cost, each where it is present
+-- PICCData
+unfoldable pub piccMirrorCost : Reading → ℕ
+piccMirrorCost r = pick (r .picc .present) piccCost 0
+
+-- SDMENCFileData: its key, its vector, and its text, half as long as its span
+unfoldable pub encMirrorCost : Reading → ℕ
+encMirrorCost r = pick (r .enc .present) (tapKeyCost + hiddenCost (r .enc .size / 2)) 0
+
+-- SDMMAC: its key, and the CMAC from SDMMACInputOffset to before the MAC
+unfoldable pub macMirrorCost : Reading → ℕ
+macMirrorCost r = pick (r .mac .present) (tapKeyCost + cmacCost (r .mac .start - r .settings .places .input)) 0
+
+unfoldable pub dynamicCost : Reading → ℕ
+dynamicCost r = piccMirrorCost r + encMirrorCost r + macMirrorCost r
+
+abbrev pub overlaid : List ℕ → ℕ → Overlaid
+overlaid f n = record { file = f; cost = n }

@@ -1,15 +1,16 @@
 // The mirrors of a tap (9.3): laid over file 2, never stored.
 ghost use mathlib.Core.Bool.{true};
 ghost use mathlib.Core.Path.{_≡_};
-ghost use Prim.Native.Nat.{_+_, _*_, _%_, _≤_};
+ghost use Prim.Native.Nat.{_+_, _-_, _*_, _/_, _%_, _≤_};
 ghost use lib.ListN.{length};
-ghost use Rattle.base.specs.Decide.{or};
 ghost use Rattle.cbc.specs.Cbc.{cbcOut};
 ghost use Rattle.key_expansion.specs.Keys.{keyExpansion};
-ghost use Rattle.cmac.specs.Cmac.{mac};
-ghost use Rattle.sdm.specs.Tap.{tapIv};
+ghost use Rattle.cmac.specs.Cmac.{mac, cmacCost, truncated};
+ghost use Rattle.sdm.specs.Tap.{tapIv, hiddenCost};
 ghost use Rattle.spans.specs.Spans.{endOf, SpansFit};
 ghost use Rattle.mirror.specs.Mirrors.{mirrorAt, stretch, highFirst, withUid, withCounter, withPicc, encData, withEnc, withMac, dynamicData};
+ghost use Rattle.mirror.specs.Mirrors.{piccMirrorCost, encMirrorCost, macMirrorCost, dynamicCost, overlaid};
+use cmac::Truncated;
 use sdm::Tap;
 use spans::Reading;
 use spans::Span;
@@ -22,14 +23,10 @@ pub struct Mirror {
     pub padding: [u8; 12],
 }
 
-// Whether one holds.
-fn either(a: bool, b: bool) -> bool
-    ensures { λ r. ⌜ r ≡ or a b ⌝ }
-{
-    if a {
-        return true;
-    }
-    b
+// The file with mirrors over it, and how many blocks were computed for them.
+pub struct Overlaid {
+    pub file: [u8; 256],
+    pub cost: usize,
 }
 
 // Bytes as capital hexadecimal over the file, at a span that is present and inside it.
@@ -59,9 +56,9 @@ fn high_first(counter: u32) -> [u8; 3]
 }
 
 // UID, counter and PICCData.
-fn lay_picc(file: [u8; 256], r: Reading, m: Mirror) -> [u8; 256]
+fn lay_picc(file: [u8; 256], r: Reading, m: Mirror) -> Overlaid
     requires { ⌜ SpansFit r ⌝ }
-    ensures { λ f. ⌜ f ≡ withPicc r m (withCounter r m (withUid r m file)) ⌝ }
+    ensures { λ f. ⌜ f ≡ overlaid (withPicc r m (withCounter r m (withUid r m file))) (piccMirrorCost r) ⌝ }
 {
     let uid = m.tap.uid;
     let f = lay_hex(file, r.uid, &uid);
@@ -71,39 +68,62 @@ fn lay_picc(file: [u8; 256], r: Reading, m: Mirror) -> [u8; 256]
         let key = m.meta_key;
         let padding = m.padding;
         let p = sdm::picc_data(key, m.tap, padding);
-        return lay_hex(g, r.picc, &p);
+        let bytes = p.bytes;
+        return Overlaid {
+            file: lay_hex(g, r.picc, &bytes),
+            cost: p.cost,
+        };
     }
-    g
+    Overlaid { file: g, cost: 0 }
 }
 
 // A text of whole blocks, encrypted, over the file.
-fn lay_hidden(file: [u8; 256], s: Span, key: [u8; 16], counter: u32, text: &mut [u8]) -> [u8; 256]
+fn lay_hidden(file: [u8; 256], s: Span, key: [u8; 16], counter: u32, text: &mut [u8]) -> Overlaid
     requires { ⌜ length (now text) % 16 ≡ 0 ⌝ }
     requires { ⌜ s .start + length (now text) * 2 ≤ 256 ⌝ }
-    ensures { λ r. ⌜ r ≡ mirrorAt s (cbcOut (keyExpansion key) (tapIv key counter) (now (text .entry))) file ⌝ }
+    ensures { λ r. ⌜ r ≡ overlaid (mirrorAt s (cbcOut (keyExpansion key) (tapIv key counter) (now (text .entry))) file) (hiddenCost (length (now (text .entry)))) ⌝ }
 {
-    sdm::tap_encrypt(key, counter, text);
-    lay_hex(file, s, text)
+    let h = sdm::tap_encrypt(key, counter, text);
+    Overlaid {
+        file: lay_hex(file, s, text),
+        cost: h.cost,
+    }
 }
 
 // The first half of the ENC span as stored, as far as it is whole blocks, encrypted, over the span.
-fn lay_enc(stored: [u8; 256], file: [u8; 256], s: Span, key: [u8; 16], counter: u32) -> [u8; 256]
+fn hide(stored: [u8; 256], file: [u8; 256], s: Span, key: [u8; 16], counter: u32) -> Overlaid
     requires { ⌜ endOf s ≤ 256 ⌝ }
-    ensures { λ r. ⌜ r ≡ mirrorAt s (encData key counter s stored) file ⌝ }
+    ensures { λ r. ⌜ r ≡ overlaid (mirrorAt s (encData key counter s stored) file) (hiddenCost (s .size / 2)) ⌝ }
 {
-    if s.present {
-        let at = s.start as usize;
-        let e = at + (s.size / 32 * 16) as usize;
-        let mut text = stored;
-        return lay_hidden(file, s, key, counter, &mut text[at..e]);
+    let at = s.start as usize;
+    let e = at + (s.size / 32 * 16) as usize;
+    let mut text = stored;
+    lay_hidden(file, s, key, counter, &mut text[at..e])
+}
+
+// ENC, under its key of the tap.
+fn lay_enc(stored: [u8; 256], file: [u8; 256], r: Reading, m: Mirror) -> Overlaid
+    requires { ⌜ SpansFit r ⌝ }
+    ensures { λ f. ⌜ f ≡ overlaid (withEnc r m stored file) (encMirrorCost r) ⌝ }
+{
+    if r.enc.present {
+        let key = m.file_key;
+        let k = sdm::tap_enc_key(key, m.tap);
+        let enc = k.bytes;
+        let h = hide(stored, file, r.enc, enc, m.tap.counter);
+        let f = h.file;
+        return Overlaid {
+            file: f,
+            cost: k.cost + h.cost,
+        };
     }
-    file
+    Overlaid { file, cost: 0 }
 }
 
 // The MAC of the file from a to before e, of nothing where a lies behind e.
-fn mac_between(file: [u8; 256], a: usize, e: usize, key: [u8; 16]) -> [u8; 8]
+fn mac_between(file: [u8; 256], a: usize, e: usize, key: [u8; 16]) -> Truncated
     requires { ⌜ e ≤ 256 ⌝ }
-    ensures { λ r. ⌜ r ≡ mac key (stretch a e file) ⌝ }
+    ensures { λ r. ⌜ r ≡ truncated (mac key (stretch a e file)) (cmacCost (e - a)) ⌝ }
 {
     if a <= e {
         return sdm::tap_mac(key, &file[a..e]);
@@ -111,39 +131,39 @@ fn mac_between(file: [u8; 256], a: usize, e: usize, key: [u8; 16]) -> [u8; 8]
     sdm::tap_mac(key, &file[e..e])
 }
 
-// The MAC of the mirrored text from an input start to before the MAC.
-fn lay_mac(file: [u8; 256], s: Span, input: u32, key: [u8; 16]) -> [u8; 256]
-    requires { ⌜ (s .present ≡ true → s .start + 16 ≤ 256) ⌝ }
-    ensures { λ r. ⌜ r ≡ mirrorAt s (mac key (stretch input (s .start) file)) file ⌝ }
+// The MAC of the mirrored text from an input start to before the MAC, under its key of the tap.
+fn lay_mac(file: [u8; 256], r: Reading, m: Mirror) -> Overlaid
+    requires { ⌜ SpansFit r ⌝ }
+    ensures { λ f. ⌜ f ≡ overlaid (withMac r m file) (macMirrorCost r) ⌝ }
 {
-    if s.present {
-        let t = mac_between(file, input as usize, s.start as usize, key);
-        return lay_hex(file, s, &t);
+    if r.mac.present {
+        let key = m.file_key;
+        let k = sdm::tap_mac_key(key, m.tap);
+        let mac = k.bytes;
+        let input = r.settings.places.input;
+        let t = mac_between(file, input as usize, r.mac.start as usize, mac);
+        let bytes = t.bytes;
+        return Overlaid {
+            file: lay_hex(file, r.mac, &bytes),
+            cost: k.cost + t.cost,
+        };
     }
-    file
+    Overlaid { file, cost: 0 }
 }
 
-// ENC and the MAC, under the keys of the tap.
-fn lay_keyed(stored: [u8; 256], file: [u8; 256], r: Reading, m: Mirror) -> [u8; 256]
+// Every mirror that the settings name, over file 2; each key only where it is needed.
+pub fn lay(file: [u8; 256], r: Reading, m: Mirror) -> Overlaid
     requires { ⌜ SpansFit r ⌝ }
-    ensures { λ f. ⌜ f ≡ withMac r m (withEnc r m stored file) ⌝ }
+    ensures { λ f. ⌜ f ≡ overlaid (dynamicData file r m) (dynamicCost r) ⌝ }
 {
-    let key = m.file_key;
-    let k = sdm::tap_keys(key, m.tap);
-    let enc = k.enc;
-    let mac = k.mac;
-    let g = lay_enc(stored, file, r.enc, enc, m.tap.counter);
-    lay_mac(g, r.mac, r.settings.places.input, mac)
-}
-
-// Every mirror that the settings name, over file 2; the keys only where they are needed.
-pub fn lay(file: [u8; 256], r: Reading, m: Mirror) -> [u8; 256]
-    requires { ⌜ SpansFit r ⌝ }
-    ensures { λ f. ⌜ f ≡ dynamicData file r m ⌝ }
-{
-    let f = lay_picc(file, r, m);
-    if either(r.enc.present, r.mac.present) {
-        return lay_keyed(file, f, r, m);
+    let p = lay_picc(file, r, m);
+    let f = p.file;
+    let e = lay_enc(file, f, r, m);
+    let g = e.file;
+    let c = lay_mac(g, r, m);
+    let h = c.file;
+    Overlaid {
+        file: h,
+        cost: p.cost + e.cost + c.cost,
     }
-    f
 }

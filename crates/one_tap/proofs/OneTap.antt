@@ -17,11 +17,12 @@ use Rattle.state.specs.declared.Tag.{Tag}
 use Rattle.state.specs.State.{readingIn, tapped}
 use Rattle.soundness.specs.Sound.{rulesSound, keysSound, aloneSound, soundTag}
 use Rattle.replies.specs.Answer.{Answer}
+use Rattle.mirror.specs.Mirrors.{dynamicCost}
 use Rattle.taps.specs.Taps.{goesOn, started, tapOf, tapText, tapPart}
 use Rattle.tag.specs.declared.Outcome.{Outcome}
 use Rattle.tag.specs.declared.Outcome.the-variants.{Replied, SmallRoom, WrongRandom, Unsound}
 use Rattle.tag.specs.Way.{answered, noted}
-use Rattle.tag.specs.Call.{withStatus, replyOf, outcomeOf, replied, byOutcome}
+use Rattle.tag.specs.Call.{withStatus, replyOf, outcomeOf, costBy, replied, byOutcome}
 use Rattle.series.specs.Series.{Asked, step, after, replies, accepting, accepts}
 use Rattle.series.proofs.Choices.{not-both, way, not-true}
 use Rattle.series.proofs.Settled.{tap-runs}
@@ -39,7 +40,7 @@ replied-is SmallRoom e = absurd (not-both e)
 replied-is WrongRandom e = absurd (not-both e)
 replied-is Unsound e = absurd (not-both e)
 
-has-reply : (t : Tag) (a : Asked) → accepts t a ≡ true → outcomeOf t (a .random) (a .room) ≡ Replied
+pub has-reply : (t : Tag) (a : Asked) → accepts t a ≡ true → outcomeOf t (a .random) (a .room) ≡ Replied
 unfolding accepts
 has-reply t a e = replied-is (outcomeOf t (a .random) (a .room)) (and-left _ _ e)
 
@@ -82,6 +83,10 @@ module _ (t : Tag) (a : Asked) (iso : Bool) (h : Taps t a iso) where
   unfolding said replyOf tapPart partAsked textOf tapped
   said-is = ap₂ heard answer-is (has-reply t a (h .reads .accepted))
 
+  cost-is : said t a .cost ≡ dynamicCost (readingIn (t .files) 2)
+  unfolding said tapPart
+  cost-is = ap₂ costBy answer-is (has-reply t a (h .reads .accepted))
+
   one-shown : Shown t a iso
   unfolding tapped
   one-shown =
@@ -90,6 +95,7 @@ module _ (t : Tag) (a : Asked) (iso : Bool) (h : Taps t a iso) where
         state = step-is;
         runs = ap (λ (u : Tag). u .tap .on) step-is ∙ tap-runs (t .tap) iso (a .random);
         by = ap (λ (u : Tag). u .tap .iso) step-is ∙ tap-by (t .tap) iso (a .random);
+        cost = cost-is;
       }
 
 pub one-read : OneRead
@@ -102,7 +108,7 @@ sound-by false false sound e = absurd (not-both (ap replies e))
 sound-by false true true e = refl
 sound-by false true false e = absurd (not-both (ap replies e))
 
-sound-outcome : (t : Tag) (random room : List ℕ) → outcomeOf t random room ≡ Replied → soundTag t ≡ true
+pub sound-outcome : (t : Tag) (random room : List ℕ) → outcomeOf t random room ≡ Replied → soundTag t ≡ true
 unfolding outcomeOf
 sound-outcome t random room = sound-by (ltb (length room) 258) (eqb (length random) 20) (soundTag t)
 

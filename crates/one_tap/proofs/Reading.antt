@@ -1,7 +1,7 @@
 -- What an accepted read of file 2 answers, without a session and with SDM on: the part asked for of what the tap shows.
 use mathlib.Core.Path.{_≡_, refl, sym, ap, ap₂, subst, _∙_}
 use mathlib.Core.Bool.{Bool, true, false, not}
-use mathlib.Core.List.{List}
+use mathlib.Core.List.{List, [], _∷_}
 use Prim.Native.Nat.{ℕ, _+_, _-_, _*_, _%_}
 use native.Mathlib.Omega.{arith}
 use lib.Dec.{eqb, leb, ltb}
@@ -13,7 +13,10 @@ use Rattle.base.proofs.Bytes.{and-left, and-right}
 use Rattle.fields.specs.Fields.{three}
 use Rattle.spans.specs.declared.Reading.{Reading}
 use Rattle.state.specs.declared.Tag.{Tag}
-use Rattle.state.specs.State.{sizeOf, readingIn, tapped}
+use Rattle.messaging.specs.declared.Mode.the-variants.{Plain}
+use Rattle.opening.specs.Command.{openingCost}
+use Rattle.opening.proofs.Opening.{opening-plain}
+use Rattle.state.specs.State.{sizeOf, readingIn, tapped, sessionOf}
 use Rattle.order.specs.declared.Name.{Name}
 use Rattle.order.specs.declared.Name.the-variants.{ReadData, IsoReadBinary}
 use Rattle.order.specs.declared.Named.the-variants.{Known}
@@ -26,12 +29,13 @@ use Rattle.order.specs.Commands.{wrappedCommand, isoCommand, byStatus, onIso, i
 use Rattle.access.specs.declared.Grant.{Grant}
 use Rattle.access.specs.declared.Grant.the-variants.{ByKey, ByTap, Free, Unasked, Never, Denied}
 use Rattle.access.specs.declared.Decision.{Decision}
-use Rattle.access.specs.Access.{reads, decided, grantStatus}
-use Rattle.replies.specs.Answer.{Answer, refusal}
+use Rattle.access.specs.declared.Right.the-variants.{Read, ReadWrite}
+use Rattle.access.specs.Access.{conditionOf, firstOf, allNever, granted, readGrant, grantFor, fileMode, underKey, modeFor, reads, decided, grantStatus}
+use Rattle.replies.specs.Answer.{Answer, givenFor, costing, refusal}
 use Rattle.taps.specs.Taps.{startStatus, readStatus, tapOf, tapStatus, tapPart, tapRead}
 use Rattle.contents.specs.Contents.{rangeStatus, asked, wrappedPart, readData}
 use Rattle.binaries.specs.Binaries.{isPlain, isoPart, readBinary, binary}
-use Rattle.wrapped.specs.Wrapped.{own}
+use Rattle.wrapped.specs.Wrapped.{own, openingCostOf}
 use Rattle.tag.specs.Way.{usedUp, fromStep7, onGrant, fromStep6, commanded, onOrder, answered}
 use Rattle.series.specs.Series.{accepting}
 use Rattle.series.proofs.Choices.{not-both, way}
@@ -143,11 +147,29 @@ module _ (t : Tag) (random : List ℕ) (free : t .live .on ≡ false) (sdm : rea
     unfolding named among classOf insOf
     read-known = refl
 
+    -- without a session a read is in Plain, which costs nothing to open
+    read-plain : d .mode ≡ Plain
+    unfolding decided modeFor grantFor readGrant granted firstOf underKey
+    read-plain =
+        let h = r .settings .head in
+        let M : Grant → Type 0 = λ g. underKey g (fileMode (h .mode)) ≡ Plain in
+        rw free (way M (leb (pick (h .sdm) (h .«sdm_file_read») 15) 4) (λ e. refl)
+        (λ e. way M (eqb (conditionOf Read h) 14) (λ e. refl)
+        (λ e. way M (eqb (conditionOf ReadWrite h) 14) (λ e. refl) (λ e. way M (allNever (Read ∷ ReadWrite ∷ []) h _) (λ e. refl) (λ e. refl)))))
+
+    opens-free : (a : Answer) → costing (openingCostOf t k (commandData c) (d .mode)) a ≡ a
+    opens-free a =
+        let s = sessionOf (t .live) in
+        let z = ap (λ m. openingCost s m (k .ins) (commandData c) (k .header) (k .parted)) read-plain
+        ∙ opening-plain s (k .ins) (commandData c) (k .header) (k .parted) in
+        let e : openingCostOf t k (commandData c) (d .mode) + a .cost ≡ a .cost = omega (arith, z) in
+        ap (λ n. givenFor n (a .tag) (a .status) (a .text)) e
+
     data-answer : P false (k .offset) count (answered t c random)
     unfolding commanded
     data-answer =
         comes t random (P false (k .offset) count) (refused false (k .offset) count) ReadData c 2 class (ap (named 0x90) command ∙ read-known) file-is
-        (λ k r x. refl) (λ z a p o. own-read p)
+        (λ k r x. refl) (λ a h g. opens-free a ∙ h g) (λ z a p o. own-read p)
 
     pub data-read : P false (fromOf c false) (countOf c false) (answered t c random)
     unfolding fromOf countOf count sizeOf

@@ -15,6 +15,7 @@ use Rattle.state.specs.declared.Tag.{Tag}
 use Rattle.state.specs.State.{readingIn, tapped}
 use Rattle.order.specs.Order.{commandData}
 use Rattle.contents.specs.Contents.{asked}
+use Rattle.mirror.specs.Mirrors.{dynamicCost}
 use Rattle.taps.specs.Taps.{tapOf, tapText}
 use Rattle.tag.specs.Call.{withStatus, outcomeOf}
 use Rattle.series.specs.Series.{Asked, step, after, replies, accepts}
@@ -59,12 +60,14 @@ OfTap t [] = Unit
 OfTap t (a ∷ more) = (Reads t a (t .tap .iso) ⊎ (replies (outcomeOf t (a .random) (a .room)) ≡ false)) × OfTap (step t a) more
 
 -- ---- one text
--- a read of a tap replies the part asked for of what the tap shows behind it, and leaves the tap running and all else as it was
+-- a read of a tap replies the part asked for of what the tap shows behind it, and leaves the tap running and all else as it was; each costs what
+-- the whole text does (request 10)
 pub record Shown (t : Tag) (a : Asked) (iso : Bool) : Type 0 where
   pub reply : said t a .reply ≡ withStatus (partAsked (textOf (step t a)) (a .command) iso) (pick iso isoNormal operationOk)
   pub state : step t a ≡ tapped t (tapOf (t .tap) iso (a .random))
   pub runs : step t a .tap .on ≡ true
   pub by : step t a .tap .iso ≡ iso
+  pub cost : said t a .cost ≡ dynamicCost (readingIn (t .files) 2)
 
 abbrev pub OneRead : Type 0
 OneRead = (t : Tag) (a : Asked) (iso : Bool) → Taps t a iso → Shown t a iso

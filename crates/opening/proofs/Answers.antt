@@ -11,7 +11,7 @@ use Rattle.messaging.specs.Protect.{Opening, textOf}
 use Rattle.opening.specs.Command.{told, answers, Opens, openedStatus}
 use Rattle.padding.specs.declared.Unpadded.{Unpadded}
 use Rattle.padding.specs.declared.Unpadded.the-variants.{Text, Wrong}
-use Rattle.opening.specs.declared.Opened.{Opened}
+use Rattle.opening.specs.declared.OpenedFor.{OpenedFor}
 use Rattle.opening.specs.declared.Opened.the-variants.{TooLong, NoRoom}
 
 -- what unpadding answers has the status that opening with it has
@@ -21,8 +21,8 @@ unpad-status s (Text n) = refl
 unpad-status s Wrong = refl
 
 -- 1 for over 255 bytes, 2 for a room that is too small, else the status of what opening gives
-pub opens-status : {x old new : List ℕ} {o : Opening} {r : Opened} → Opens x o old r new
-    → openedStatus r ≡ pick (ltb 255 (length x)) 1 (pick (ltb (length old) (length x)) 2 (openedStatus (told o)))
+pub opens-status : {x old new : List ℕ} {o : Opening} {n : ℕ} {r : OpenedFor} → Opens x o n old r new
+    → openedStatus (r .opened) ≡ pick (ltb 255 (length x)) 1 (pick (ltb (length old) (length x)) 2 (openedStatus (told o)))
 unfolding openedStatus answers
 opens-status {x = x} {old = old} {o = o} h =
     let small = ltb (length old) (length x) in

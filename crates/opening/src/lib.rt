@@ -3,7 +3,13 @@ mod command;
 
 pub use command::open;
 
-// What opening a command came to.
+// What opening a command came to, and how many blocks were computed.
+pub struct OpenedFor {
+    pub opened: Opened,
+    pub cost: usize,
+}
+
+// What it came to.
 pub enum Opened {
     // The plain data stands at the front of the room, this many bytes.
     Data(usize),

@@ -2,7 +2,8 @@
 ghost use mathlib.Core.Path.{_≡_};
 ghost use lib.ListN.{drop};
 ghost use Rattle.replies.specs.Answer.{Gives};
-ghost use Rattle.part_two.specs.PartTwo.{sessionFrom, enteredFirst, enteredNext, entered, partTwoAnswer};
+ghost use Rattle.part_two.specs.PartTwo.{sessionFrom, enteredFirst, enteredNext, entered, byProof, partTwoAnswer};
+ghost use Rattle.session_keys.specs.Keys.{sessionKeysCost};
 use authentication::Proof;
 use replies::Done;
 use state::Live;
@@ -18,21 +19,31 @@ fn ti_of(random: [u8; 20]) -> [u8; 4]
     r
 }
 
+// A session, and how many blocks were computed for its keys.
+struct Started {
+    live: Live,
+    cost: usize,
+}
+
 // The session that part two opens.
-fn session(p: Pending, kx: [u8; 16], a: [u8; 16], ti: [u8; 4], counter: u16) -> Live
-    ensures { λ r. ⌜ r ≡ sessionFrom p kx a ti counter ⌝ }
+fn session(p: Pending, kx: [u8; 16], a: [u8; 16], ti: [u8; 4], counter: u16) -> Started
+    ensures live { λ r. ⌜ r .live ≡ sessionFrom p kx a ti counter ⌝ }
+    ensures cost { λ r. ⌜ r .cost ≡ sessionKeysCost ⌝ }
 {
     let b = p.rnd_b;
     let k = session_keys::session_keys(kx, a, b);
     let enc = k.enc;
     let mac = k.mac;
-    Live {
-        on: true,
-        key: p.key,
-        enc,
-        mac,
-        ti,
-        counter,
+    Started {
+        live: Live {
+            on: true,
+            key: p.key,
+            enc,
+            mac,
+            ti,
+            counter,
+        },
+        cost: k.cost,
     }
 }
 
@@ -44,8 +55,10 @@ fn enter_first(tag: Tag, kx: [u8; 16], a: [u8; 16], random: [u8; 20]) -> Done
     let cap = p.cap;
     let ti = ti_of(random);
     let e = authentication::first_reply(kx, ti, a, cap);
-    let l = session(p, kx, a, ti, 0);
-    replies::give_text(state::talking(tag, l, state::no_pending()), 0x9100, &e)
+    let s = session(p, kx, a, ti, 0);
+    let text = e.bytes;
+    let t = state::talking(tag, s.live, state::no_pending());
+    replies::give_text(t, 0x9100, &text, s.cost + e.cost)
 }
 
 // Part two of 77 accepted: RndA'; CmdCtr is kept.
@@ -55,8 +68,10 @@ fn enter_next(tag: Tag, kx: [u8; 16], a: [u8; 16]) -> Done
     let p = tag.pending;
     let ti = p.ti;
     let e = authentication::next_reply(kx, a);
-    let l = session(p, kx, a, ti, p.counter);
-    replies::give_text(state::talking(tag, l, state::no_pending()), 0x9100, &e)
+    let s = session(p, kx, a, ti, p.counter);
+    let text = e.bytes;
+    let t = state::talking(tag, s.live, state::no_pending());
+    replies::give_text(t, 0x9100, &text, s.cost + e.cost)
 }
 
 // Part two with the right RndB'.
@@ -67,6 +82,17 @@ fn enter_right(tag: Tag, kx: [u8; 16], a: [u8; 16], random: [u8; 20]) -> Done
         return enter_first(tag, kx, a, random);
     }
     enter_next(tag, kx, a)
+}
+
+// Part two behind its check, which gave RndA.
+fn by_proof(proof: Proof, tag: Tag, kx: [u8; 16], a: [u8; 16], random: [u8; 20]) -> Done
+    ensures { λ r. ⌜ Gives (byProof tag kx a random proof) r ⌝ }
+{
+    match proof {
+        Proof::NotThirtyTwo => replies::refuse(tag, 0x917E),
+        Proof::WrongRndB => replies::refuse(tag, 0x91AE),
+        Proof::Right => enter_right(tag, kx, a, random),
+    }
 }
 
 // Part two.
@@ -80,9 +106,7 @@ pub fn second(tag: Tag, x: &[u8], random: [u8; 20]) -> Done
     let r = authentication::check_part_two(kx, b, x);
     let a = r.a;
     let proof = r.proof;
-    match proof {
-        Proof::NotThirtyTwo => replies::refuse(tag, 0x917E),
-        Proof::WrongRndB => replies::refuse(tag, 0x91AE),
-        Proof::Right => enter_right(tag, kx, a, random),
-    }
+    let mut d = by_proof(proof, tag, kx, a, random);
+    d.cost = r.cost + d.cost;
+    d
 }

@@ -1,5 +1,5 @@
 -- Laws of a call at the C border: each case by its number, with what image, room and journal hold.
-use mathlib.Core.Path.{_≡_, refl, sym, ap, subst, _∙_}
+use mathlib.Core.Path.{_≡_, refl, sym, ap, ap₂, subst, _∙_}
 use mathlib.Core.Bool.{true, false}
 use mathlib.Core.List.{List}
 use Prim.Native.Nat.{ℕ}
@@ -16,7 +16,7 @@ use Rattle.tag.specs.declared.Outcome.the-variants.{Replied, SmallRoom, WrongRa
 use Rattle.tag.specs.declared.Called.{Called}
 use Rattle.access.specs.declared.Noted.{Noted}
 use Rattle.tag.specs.Way.{answered, noted}
-use Rattle.tag.specs.Call.{replied, unanswered, outcomeOf, byOutcome, notedBy, Calls}
+use Rattle.tag.specs.Call.{replied, unanswered, outcomeOf, byOutcome, notedBy, costBy, Calls}
 use Rattle.playing.specs.Answers.{callNumber, callImage, isReply, journalLength, journalOf, Answers, stateIn, fit, Plays}
 
 -- ---- a call
@@ -34,6 +34,13 @@ noted-is t a n SmallRoom = refl
 noted-is t a n WrongRandom = refl
 noted-is t a n Unsound = refl
 
+cost-is : (t : Tag) (a : Answer) (n : Noted) (o : Outcome) → byOutcome t a n o .cost ≡ costBy a o
+unfolding replied unanswered
+cost-is t a n Replied = refl
+cost-is t a n SmallRoom = refl
+cost-is t a n WrongRandom = refl
+cost-is t a n Unsound = refl
+
 length-is : (a : Answer) (n : Noted) → replied a n .length ≡ callNumber a Replied
 unfolding replied
 length-is a n = refl
@@ -42,7 +49,8 @@ tag-is : (a : Answer) (n : Noted) (s : List ℕ) → imageOf (replied a n .tag) 
 unfolding replied
 tag-is a n s = refl
 
-module _ (t : Tag) (s c random room : List ℕ) (d : Called) (s′ room′ j′ : List ℕ) (k : Calls t c random room d room′) (w : j′ ≡ journalOf (d .noted)) where
+module _ (t : Tag) (s c random room : List ℕ) (d : Called) (s′ room′ j′ : List ℕ) (k : Calls t c random room d room′)
+    (w : j′ ≡ journalOf (d .noted) (d .cost)) where
   outcome-was : (x : Outcome) → d .outcome ≡ x → outcomeOf t random room ≡ x
   outcome-was x e = sym (ap (λ z. z .outcome) (k .told) ∙ outcome-is t (answered t c random) (noted t c) (outcomeOf t random room)) ∙ e
 
@@ -51,11 +59,14 @@ module _ (t : Tag) (s c random room : List ℕ) (d : Called) (s′ room′ j′ 
       → s′ ≡ callImage (answered t c random) s x → leb r 258 ≡ isReply x → Answers t s c random room r s′ room′ j′
   answers r x e p q a =
       let was = sym (outcome-was x e) in
+      let a′ = answered t c random in
+      let n = noted t c in
+      let o = outcomeOf t random room in
       record {
         number = p ∙ ap (λ o. callNumber (answered t c random) o) was;
         kept = q ∙ ap (λ o. callImage (answered t c random) s o) was;
         left = k .left;
-        notes = w ∙ ap (λ (z : Called). journalOf (z .noted)) (k .told) ∙ ap journalOf (noted-is t (answered t c random) (noted t c) (outcomeOf t random room));
+        notes = w ∙ ap (λ (z : Called). journalOf (z .noted) (z .cost)) (k .told) ∙ ap₂ journalOf (noted-is t a′ n o) (cost-is t a′ n o);
         apart = a ∙ ap isReply was;
       }
 

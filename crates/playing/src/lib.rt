@@ -6,13 +6,32 @@ use access::Noted;
 use state::Tag;
 use tag::Outcome;
 
-// What a call notes, over the journal.
-fn note(n: Noted, journal: &mut [u8])
+// What a call notes and what it cost, over the journal.
+fn note(n: Noted, cost: usize, journal: &mut [u8])
     requires { ⌜ length (now journal) ≡ 16 ⌝ }
-    ensures { λ _. ⌜ now (journal .exit) ≡ journalOf n ⌝ }
+    ensures { λ _. ⌜ now (journal .exit) ≡ journalOf n cost ⌝ }
 {
     let m = access::marked(n);
-    let text = [m.how, m.right, 0, 0, 0, 0, 0, 0, 0, 0, 0, 0, 0, 0, 0, 0];
+    let low = (cost % 256) as u8;
+    let high = (cost / 256 % 256) as u8;
+    let text = [
+        m.how,
+        m.right,
+        low,
+        high,
+        0,
+        0,
+        0,
+        0,
+        0,
+        0,
+        0,
+        0,
+        0,
+        0,
+        0,
+        0,
+    ];
     base::put(&text, journal, 0);
 }
 
@@ -31,7 +50,7 @@ fn answer(
 {
     let called = tag::call(tag, command, random, room);
     let noted = called.noted;
-    note(noted, journal);
+    note(noted, called.cost, journal);
     let outcome = called.outcome;
     match outcome {
         Outcome::Replied => {

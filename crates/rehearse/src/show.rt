@@ -20,7 +20,7 @@ pub fn summary(t: Tag) {
 // The last line.
 pub fn last(n: Tally) {
     tell(
-        b"# exchanges, # refused, # lines skipped{, # of # not as expected}{, the first in line #}\n",
+        b"# exchanges, # refused, # lines skipped{, # of # not as expected}{, the first in line #}, # blocks\n",
         &[
             n.exchanges,
             n.refused,
@@ -28,6 +28,7 @@ pub fn last(n: Tally) {
             n.unmet,
             n.expecting,
             n.first,
+            n.blocks,
         ],
         &[0 < n.expecting, 0 < n.unmet],
     );

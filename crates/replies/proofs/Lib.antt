@@ -1,4 +1,5 @@
 pub mod Accepting
+pub mod Costs
 pub mod Counting
 pub mod Equal
 pub mod Given

@@ -2,18 +2,19 @@
 ghost use mathlib.Core.Path.{_≡_};
 ghost use Prim.Native.Nat.{min};
 ghost use lib.ListN.{take};
-ghost use Rattle.replies.specs.Answer.{Gives, refusal, given, roomGiven, accepted, raised, afterwards};
+ghost use Rattle.replies.specs.Answer.{Gives, refusal, givenFor, roomGiven, accepted, raised, afterwards};
 use closing::Closed;
 use messaging::Mode;
 use state::Live;
 use state::Tag;
 
-// An answer: the status, as many bytes of data as the length says, and the next state.
+// An answer: the status, as many bytes of data as the length says, the next state, and how many blocks were computed.
 pub struct Done {
     pub status: u16,
     pub length: usize,
     pub bytes: [u8; 258],
     pub tag: Tag,
+    pub cost: usize,
 }
 
 // Bytes for a reply at the front of a room, and how many.
@@ -41,28 +42,30 @@ pub fn refuse(tag: Tag, status: u16) -> Done
         length: 0,
         bytes: [0; 258],
         tag: state::ended(tag),
+        cost: 0,
     }
 }
 
-// The first n bytes as they are, at most 256, under a status.
-pub fn give(tag: Tag, status: u16, bytes: [u8; 258], n: usize) -> Done
-    ensures { λ r. ⌜ Gives (given tag status (take (min n 256) bytes)) r ⌝ }
+// The first n bytes as they are, at most 256, under a status, for so many blocks.
+pub fn give(tag: Tag, status: u16, bytes: [u8; 258], n: usize, cost: usize) -> Done
+    ensures { λ r. ⌜ Gives (givenFor cost tag status (take (min n 256) bytes)) r ⌝ }
 {
     Done {
         status,
         length: smaller(n, 256),
         bytes,
         tag,
+        cost,
     }
 }
 
-// A text as it is, up to 256 bytes of it, under a status.
-pub fn give_text(tag: Tag, status: u16, e: &[u8]) -> Done
-    ensures { λ r. ⌜ Gives (roomGiven tag status (now (e .entry))) r ⌝ }
+// A text as it is, up to 256 bytes of it, under a status, for so many blocks.
+pub fn give_text(tag: Tag, status: u16, e: &[u8], cost: usize) -> Done
+    ensures { λ r. ⌜ Gives (roomGiven cost tag status (now (e .entry))) r ⌝ }
 {
     let mut bytes = [0u8; 258];
     base::put(e, &mut bytes, 0);
-    give(tag, status, bytes, e.len())
+    give(tag, status, bytes, e.len(), cost)
 }
 
 // CmdCtr rises by one in session.
@@ -98,12 +101,14 @@ pub fn accept(tag: Tag, m: Mode, bytes: [u8; 258], n: usize) -> Done
     let mut b = bytes;
     let k = smaller(n, 256);
     let c = closing::close(state::session_of(t.live), m, 0, &mut b, k);
-    match c {
+    let closed = c.closed;
+    match closed {
         Closed::Reply(length) => Done {
             status: 0x9100,
             length,
             bytes: b,
             tag: t,
+            cost: c.cost,
         },
         Closed::Over => refuse(tag, 0x917E),
         Closed::Small => refuse(tag, 0x917E),

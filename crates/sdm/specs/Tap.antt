@@ -6,12 +6,12 @@ use Prim.Native.Nat.{ℕ, _+_, _-_, _≤_}
 use lib.ListN.{length, take, replicate}
 use Rattle.base.specs.Decide.{pick}
 use Rattle.base.specs.Bytes.{low}
-use Rattle.aes.specs.Block.{cipher}
-use Rattle.cbc.specs.Cbc.{cbcOut, whole}
-use Rattle.cmac.specs.Cmac.{cmac}
+use Rattle.aes.specs.Block.{cipher, blockCost}
+use Rattle.cbc.specs.Cbc.{cbcOut, whole, cbcCost}
+use Rattle.cmac.specs.Cmac.{cmac, cmacCost}
 use Rattle.key_expansion.specs.Keys.{keyExpansion}
 use Rattle.sdm.specs.declared.Tap.{Tap}
-use Rattle.sdm.specs.declared.TapKeys.{TapKeys}
+use Rattle.sdm.specs.declared.Hidden.{Hidden}
 
 -- UID and counter as far as they are mirrored, the counter low byte first
 unfoldable pub mirrored : List ℕ → ℕ → Bool → Bool → List ℕ
@@ -33,6 +33,10 @@ piccText t padding =
 unfoldable pub piccData : List ℕ → Tap → List ℕ → List ℕ
 piccData key t padding = cipher (keyExpansion key) (piccText t padding)
 
+-- 02, request 10: what PICCData costs
+abbrev pub piccCost : ℕ
+piccCost = blockCost
+
 -- UID and counter, at the front of ten bytes that are zeros behind them
 pub record Mirrors (p b : List ℕ) (n : ℕ) : Type 0 where
   pub count : n ≡ length p
@@ -43,16 +47,33 @@ pub record Mirrors (p b : List ℕ) (n : ℕ) : Type 0 where
 unfoldable pub tapVector : ℕ → ℕ → Tap → List ℕ
 tapVector a b t = a ∷ b ∷ 0 ∷ 1 ∷ 0 ∷ 128 ∷ mirroredOf t ++ replicate (10 - length (mirroredOf t)) 0
 
+unfoldable pub tapKey : List ℕ → ℕ → ℕ → Tap → List ℕ
+tapKey key a b t = cmac (keyExpansion key) (tapVector a b t)
+
 -- SesSDMFileReadENCKey and SesSDMFileReadMACKey
-unfoldable pub tapKeys : List ℕ → Tap → TapKeys
-tapKeys key t =
-    record { enc = cmac (keyExpansion key) (tapVector 0xC3 0x3C t); mac = cmac (keyExpansion key) (tapVector 0x3C 0xC3 t) }
+abbrev pub tapEncKey : List ℕ → Tap → List ℕ
+tapEncKey key t = tapKey key 0xC3 0x3C t
+
+abbrev pub tapMacKey : List ℕ → Tap → List ℕ
+tapMacKey key t = tapKey key 0x3C 0xC3 t
+
+-- 02, request 10: what each of them costs: a CMAC of 16 bytes
+abbrev pub tapKeyCost : ℕ
+tapKeyCost = cmacCost 16
 
 -- the vector of ENC
 unfoldable pub tapIv : List ℕ → ℕ → List ℕ
 tapIv key counter = cipher (keyExpansion key) (low 3 counter ++ replicate 13 0)
 
--- SDMENCFileData over whole blocks; another length is refused, the text as it was
-pub record Hides (key : List ℕ) (counter : ℕ) (old : List ℕ) (r : Bool) (new : List ℕ) : Type 0 where
-  pub answer : r ≡ whole old
+-- 02, request 10: what the vector costs, and the encryption of n bytes with it
+abbrev pub tapIvCost : ℕ
+tapIvCost = blockCost
+
+unfoldable pub hiddenCost : ℕ → ℕ
+hiddenCost n = tapIvCost + cbcCost n
+
+-- SDMENCFileData over whole blocks; another length is refused before any block, the text as it was
+pub record Hides (key : List ℕ) (counter : ℕ) (old : List ℕ) (r : Hidden) (new : List ℕ) : Type 0 where
+  pub answer : r .whole ≡ whole old
+  pub cost : r .cost ≡ pick (whole old) (hiddenCost (length old)) 0
   pub text : new ≡ pick (whole old) (cbcOut (keyExpansion key) (tapIv key counter) old) old

@@ -2,14 +2,16 @@
 ghost use mathlib.Core.Path.{_≡_};
 ghost use mathlib.Core.List.{_∷_, _++_};
 ghost use Prim.Native.Nat.{_-_, _≤_};
-ghost use lib.ListN.{take, replicate};
+ghost use lib.ListN.{length, take, replicate};
 ghost use Rattle.base.specs.Decide.{pick};
 ghost use Rattle.base.specs.Bytes.{low};
-ghost use Rattle.aes.specs.Block.{cipher};
-ghost use Rattle.cmac.specs.Cmac.{mac};
-ghost use Rattle.sdm.specs.Tap.{mirrored, Mirrors, piccTag, piccData, tapKeys, tapIv, Hides};
+ghost use Rattle.aes.specs.Block.{cipher, ciphered, blockCost};
+ghost use Rattle.cmac.specs.Cmac.{mac, cmacCost, truncated};
+ghost use Rattle.sdm.specs.Tap.{mirrored, Mirrors, piccTag, piccData, piccCost, tapKey, tapEncKey, tapMacKey, tapKeyCost, tapIv, tapIvCost, Hides};
+use crate::Hidden;
 use crate::Tap;
-use crate::TapKeys;
+use aes::Ciphered;
+use cmac::Truncated;
 
 // A number where something is there, and 0 where not.
 fn where_there(there: bool, n: usize) -> usize
@@ -92,8 +94,8 @@ fn picc_text(tag: u8, b: [u8; 10], n: usize, padding: [u8; 15]) -> [u8; 16]
 }
 
 // PICCData.
-pub fn picc_data(key: [u8; 16], t: Tap, padding: [u8; 12]) -> [u8; 16]
-    ensures { λ r. ⌜ r ≡ piccData key t padding ⌝ }
+pub fn picc_data(key: [u8; 16], t: Tap, padding: [u8; 12]) -> Ciphered
+    ensures { λ r. ⌜ r ≡ ciphered (piccData key t padding) piccCost ⌝ }
 {
     let uid = t.uid;
     let m = mirror_of(uid, t.counter, t.names, t.counts);
@@ -114,24 +116,35 @@ fn vector(l: u8, m: u8, b: [u8; 10]) -> [u8; 16]
     v
 }
 
-// Both keys of a tap, from the key of SDMFileRead.
-pub fn tap_keys(key: [u8; 16], t: Tap) -> TapKeys
-    ensures { λ r. ⌜ r ≡ tapKeys key t ⌝ }
+// A key of a tap, for a label.
+fn tap_key(key: [u8; 16], l: u8, m: u8, t: Tap) -> Ciphered
+    ensures { λ r. ⌜ r ≡ ciphered (tapKey key l m t) tapKeyCost ⌝ }
 {
     let w = key_expansion::expand(key);
     let uid = t.uid;
-    let m = mirror_of(uid, t.counter, t.names, t.counts);
-    let b = m.bytes;
-    let one = vector(0xC3, 0x3C, b);
-    let two = vector(0x3C, 0xC3, b);
-    let enc = cmac::cmac_of(&w, &one);
-    let mac = cmac::cmac_of(&w, &two);
-    TapKeys { enc, mac }
+    let p = mirror_of(uid, t.counter, t.names, t.counts);
+    let b = p.bytes;
+    let v = vector(l, m, b);
+    cmac::cmac_of(&w, &v)
+}
+
+// The key of ENC, from the key of SDMFileRead.
+pub fn tap_enc_key(key: [u8; 16], t: Tap) -> Ciphered
+    ensures { λ r. ⌜ r ≡ ciphered (tapEncKey key t) tapKeyCost ⌝ }
+{
+    tap_key(key, 0xC3, 0x3C, t)
+}
+
+// The key of the MAC.
+pub fn tap_mac_key(key: [u8; 16], t: Tap) -> Ciphered
+    ensures { λ r. ⌜ r ≡ ciphered (tapMacKey key t) tapKeyCost ⌝ }
+{
+    tap_key(key, 0x3C, 0xC3, t)
 }
 
 // The vector of ENC, under round keys.
-fn tap_vector(w: &[[u8; 16]; 11], counter: u32) -> [u8; 16]
-    ensures { λ r. ⌜ r ≡ cipher (now (w .entry)) (low 3 counter ++ replicate 13 0) ⌝ }
+fn tap_vector(w: &[[u8; 16]; 11], counter: u32) -> Ciphered
+    ensures { λ r. ⌜ r ≡ ciphered (cipher (now (w .entry)) (low 3 counter ++ replicate 13 0)) blockCost ⌝ }
 {
     let c = three(counter);
     let b = [c[0], c[1], c[2], 0, 0, 0, 0, 0, 0, 0, 0, 0, 0, 0, 0, 0];
@@ -139,27 +152,36 @@ fn tap_vector(w: &[[u8; 16]; 11], counter: u32) -> [u8; 16]
 }
 
 // The vector of ENC.
-pub fn tap_iv(key: [u8; 16], counter: u32) -> [u8; 16]
-    ensures { λ r. ⌜ r ≡ tapIv key counter ⌝ }
+pub fn tap_iv(key: [u8; 16], counter: u32) -> Ciphered
+    ensures { λ r. ⌜ r ≡ ciphered (tapIv key counter) tapIvCost ⌝ }
 {
     let w = key_expansion::expand(key);
     tap_vector(&w, counter)
 }
 
 // Encrypts the text of ENC in place; answers whether it was whole blocks.
-pub fn tap_encrypt(key: [u8; 16], counter: u32, text: &mut [u8]) -> bool
+pub fn tap_encrypt(key: [u8; 16], counter: u32, text: &mut [u8]) -> Hidden
     ensures { λ r. ⌜ Hides key counter (now (text .entry)) r (now (text .exit)) ⌝ }
 {
+    if text.len() % 16 != 0 {
+        return Hidden {
+            whole: false,
+            cost: 0,
+        };
+    }
     let w = key_expansion::expand(key);
-    let iv = tap_vector(&w, counter);
-    let whole = text.len() % 16 == 0;
-    cbc::cbc_encrypt(&w, iv, text);
-    whole
+    let v = tap_vector(&w, counter);
+    let iv = v.bytes;
+    let c = cbc::cbc_encrypt(&w, iv, text);
+    Hidden {
+        whole: true,
+        cost: v.cost + c.cost,
+    }
 }
 
 // The eight bytes of MAC of a text.
-pub fn tap_mac(key: [u8; 16], text: &[u8]) -> [u8; 8]
-    ensures { λ r. ⌜ r ≡ mac key (now (text .entry)) ⌝ }
+pub fn tap_mac(key: [u8; 16], text: &[u8]) -> Truncated
+    ensures { λ r. ⌜ r ≡ truncated (mac key (now (text .entry))) (cmacCost (length (now (text .entry)))) ⌝ }
 {
     let w = key_expansion::expand(key);
     cmac::mac_of(&w, text)

@@ -2,10 +2,11 @@
 mod codes;
 
 pub use codes::picc_data;
+pub use codes::tap_enc_key;
 pub use codes::tap_encrypt;
 pub use codes::tap_iv;
-pub use codes::tap_keys;
 pub use codes::tap_mac;
+pub use codes::tap_mac_key;
 
 // A tap: its UID and its counter, and whether they are mirrored.
 pub struct Tap {
@@ -15,8 +16,8 @@ pub struct Tap {
     pub counts: bool,
 }
 
-// The keys of a tap.
-pub struct TapKeys {
-    pub enc: [u8; 16],
-    pub mac: [u8; 16],
+// Whether the text of ENC was whole blocks, and how many were computed.
+pub struct Hidden {
+    pub whole: bool,
+    pub cost: usize,
 }

@@ -18,7 +18,7 @@ fn move_to(tag: Tag, application: bool) -> Done
         file: 0,
     };
     t.place = p;
-    replies::give(t, 0x9000, [0; 258], 0)
+    replies::give(t, 0x9000, [0; 258], 0, 0)
 }
 
 // A file needs the application, and keeps the session.
@@ -34,7 +34,7 @@ fn select_file(tag: Tag, n: u8) -> Done
         let q = state::quiet(t.tap);
         t.place = p;
         t.tap = q;
-        return replies::give(t, 0x9000, [0; 258], 0);
+        return replies::give(t, 0x9000, [0; 258], 0, 0);
     }
     replies::refuse(tag, 0x6A82)
 }

@@ -14,7 +14,7 @@ use Rattle.closing.specs.Reply.{overlong, closedLength, hiddenLength, closedSta
 use Rattle.state.specs.declared.Pending.{Pending}
 use Rattle.state.specs.declared.Tag.{Tag}
 use Rattle.state.specs.State.{readingIn, endedOf, talking}
-use Rattle.replies.specs.Answer.{Answer, given, refusal, accepted}
+use Rattle.replies.specs.Answer.{Answer, givenFor, costing, refusal, accepted}
 use Rattle.file_parts.specs.Filing.{storedIso}
 use Rattle.taps.specs.Taps.{readStatus, tapStatus, tapPart, tapRead}
 use Rattle.auth.specs.Parts.{begun}
@@ -66,11 +66,12 @@ pub accepted-none : (t : Tag) (m : Mode) → accepting (accepted t m [] .status)
 unfolding accepted accepting
 accepted-none t m = rw (short-none m) refl
 
--- ---- what holds of each answer that accepts, of each refusal and of part one holds of every answer
+-- ---- what holds of each answer that accepts, of each refusal and of part one, whatever it costs, holds of every answer
 by-status : (t : Tag) (c random : List ℕ) (P : Answer → Type 0) → ((a : Answer) → accepting (a .status) ≡ true → P a)
-    → ((s : ℕ) → P (refusal t s)) → ((p : Pending) → P (begun t p)) → Kinds t c random P
+    → ((s : ℕ) → P (refusal t s)) → ((p : Pending) → P (begun t p))
+    → ((n : ℕ) (a : Answer) → P a → P (costing n a)) → Kinds t c random P
 unfolding entered enteredFirst enteredNext accepted tapRead tapPart storedIso moved selectedFile
-by-status t c random P on-accepting on-refusal on-begun =
+by-status t c random P on-accepting on-refusal on-begun on-cost =
     record {
       refuses = on-refusal;
       begins = λ p k a. on-begun p;
@@ -88,17 +89,18 @@ by-status t c random P on-accepting on-refusal on-begun =
       reads-iso = λ n at count. fair _ 0x9000 _ yes-9000;
       moves = λ application. fair _ 0x9000 _ yes-9000;
       selects = λ n h. way P (t .place .application) (λ e. fair _ 0x9000 _ yes-9000) (λ e. on-refusal 0x6A82);
+      costs = on-cost;
     }
   where
-    fair : (u : Tag) (status : ℕ) (text : List ℕ) → accepting status ≡ true → P (given u status text)
-    fair u status text e = on-accepting (given u status text) e
+    fair : {n : ℕ} (u : Tag) (status : ℕ) (text : List ℕ) → accepting status ≡ true → P (givenFor n u status text)
+    fair {n} u status text e = on-accepting (givenFor n u status text) e
 
 -- ---- a status that does not pass
 ended-kinds : (t : Tag) (c random : List ℕ) → Kinds t c random (EndedOr t)
 unfolding refusal begun
 ended-kinds t c random =
     by-status t c random (EndedOr t) (λ a e. passes (a .status) e) (λ s h. record { state = refl; empty = refl })
-    (λ p h. absurd (not-both (sym h ∙ yes-91AF)))
+    (λ p h. absurd (not-both (sym h ∙ yes-91AF))) (λ n a f h. record { state = f h .state; empty = f h .empty })
 
 pub otherwise-ended : (t : Tag) (c random : List ℕ) → passing (answered t c random .status) ≡ false → Ended t (answered t c random)
 otherwise-ended t c random = every-answer t c random (EndedOr t) (ended-kinds t c random)
@@ -108,7 +110,7 @@ same-kinds : (t : Tag) (c random : List ℕ) → Kinds t c random (SameOr t)
 unfolding refusal endedOf begun talking
 same-kinds t c random =
     by-status t c random (SameOr t) (λ a e h. absurd (not-both (sym h ∙ e))) (λ s h. record { files = refl; secrets = refl })
-    (λ p h. record { files = refl; secrets = refl })
+    (λ p h. record { files = refl; secrets = refl }) (λ n a f. f)
 
 pub changed-accepted : (t : Tag) (c random : List ℕ) → accepting (answered t c random .status) ≡ false → Same t (answered t c random .tag)
 changed-accepted t c random = every-answer t c random (SameOr t) (same-kinds t c random)

@@ -1,9 +1,9 @@
 -- Groups of definitions that examples compute through: to unfold a group is to unfold all that its line names.
 use mathlib.Core.Bool.{Bool, true}
 use Rattle.base.specs.Bytes.{same, laid, number, low}
-use Rattle.messaging.specs.Protect.{content, signed, sent, macRight, modeNumber}
-use Rattle.opening.specs.Command.{partRight, lengthRight, checked, opening, openedStatus}
-use Rattle.closing.specs.Reply.{closed, closedLength, overlong}
+use Rattle.messaging.specs.Protect.{content, signed, sent, macRight, modeNumber, partCost, signedCost}
+use Rattle.opening.specs.Command.{partRight, lengthRight, checked, checkedCost, opening, openingCost, openedStatus}
+use Rattle.closing.specs.Reply.{closed, closedLength, closedCost, overlong}
 use Rattle.fields.specs.Fields.{sdmOn, sdmByte, modeOf, headOf, hasUid, hasCounter, hasPicc, hasMac, hasEnc, present}
 use Rattle.fields.specs.Fields.{three, fields, ends, placesOf, placesIn, sizeOf, readOf}
 use Rattle.spans.specs.Spans.{span, uidSpan, counterSpan, piccSpan, encSpan, macSpan, readingOf}
@@ -65,6 +65,11 @@ access = true
 unfoldable pub a-message : Bool
 unfolding content signed sent macRight partRight lengthRight checked opening openedStatus closed closedLength overlong
 a-message = true
+
+-- what opening and closing it costs
+unfoldable pub a-cost : Bool
+unfolding partCost signedCost checkedCost openingCost closedCost
+a-cost = true
 
 unfoldable pub an-answer : Bool
 unfolding refusal raised sessionOf afterwards accepted stored storedIso answered withStatus replyOf

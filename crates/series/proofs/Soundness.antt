@@ -112,6 +112,7 @@ fine-kinds t h c random =
       reads-iso = λ n at count. fine-after t h₀;
       moves = fine-moved t h₀;
       selects = fine-selected t h₀;
+      costs = λ n a f. f;
     }
 
 pub fine-answered : (t : Tag) → Fine t → (c random : List ℕ) → Fine (answered t c random .tag)

@@ -5,7 +5,7 @@ use mathlib.Core.List.{List, [], _∷_}
 use Prim.Native.Nat.{ℕ, _+_, _-_, _*_, _%_, _≤_}
 use native.Mathlib.Omega.{arith}
 use lib.Dec.{eqb, leb, ltb}
-use lib.ListN.{length, take}
+use lib.ListN.{length}
 use borrow.Author.Tests.{eqb-true}
 use Rattle.base.specs.Decide.{pick, or, oneOf}
 use Rattle.base.specs.Bytes.{byteAt, same}
@@ -14,7 +14,7 @@ use Rattle.messaging.specs.declared.Mode.the-variants.{Full}
 use Rattle.authentication.specs.declared.Proof.{Proof}
 use Rattle.authentication.specs.declared.Proof.the-variants.{Right, NotThirtyTwo, WrongRndB}
 use Rattle.opening.specs.declared.Opened.the-variants.{WrongLength, WrongMac, WrongPadding}
-use Rattle.authentication.specs.Authentication.{proofOf, proofStatus, deciphered}
+use Rattle.authentication.specs.Authentication.{partTwo, proofStatus}
 use Rattle.messaging.specs.Protect.{Opening, plain, wrongLength, wrongMac, wrongPadding}
 use Rattle.opening.specs.Command.{openedStatus}
 use Rattle.settings.specs.declared.Verdict.{Verdict}
@@ -45,7 +45,7 @@ use Rattle.state.specs.declared.Pending.{Pending}
 use Rattle.state.specs.declared.Secrets.{Secrets}
 use Rattle.state.specs.declared.Tag.{Tag}
 use Rattle.state.specs.State.{sizeOf, readingIn, keyIn, endedOf, filed, keyed}
-use Rattle.replies.specs.Answer.{Answer, given, refusal, accepted, afterwards}
+use Rattle.replies.specs.Answer.{Answer, given, costing, refusal, accepted, afterwards}
 use Rattle.file_parts.specs.Filing.{stored, storedIso, withBytes}
 use Rattle.taps.specs.Taps.{tapRead}
 use Rattle.auth.specs.Parts.{firstStatus, nextStatus, pendingFirst, pendingNext, begun, partOneFirst, partOneNext}
@@ -56,7 +56,7 @@ use Rattle.change_settings.specs.ChangeSettings.{changedSettings, byVerdict}
 use Rattle.contents.specs.Contents.{rangeStatus, asked, wrappedPart, readData, writeStatus, writtenData}
 use Rattle.selects.specs.Selects.{moved, selectedFile, ofId, byId, byName, selected, piccName, applicationName}
 use Rattle.binaries.specs.Binaries.{isPlain, isoPart, readBinary, updatedBinary, binary}
-use Rattle.wrapped.specs.Wrapped.{own, openingOf, onOpening, wrapped}
+use Rattle.wrapped.specs.Wrapped.{own, openingOf, openingCostOf, onOpening, wrapped}
 use Rattle.tag.specs.Way.{usedUp, fromStep7, onGrant, fromStep6, commanded, onOrder, answered}
 use Rattle.series.specs.Series.{allows}
 use Rattle.series.proofs.Choices.{way, or-left, or-right, not-false}
@@ -88,6 +88,7 @@ pub record Kinds (t : Tag) (c random : List ℕ) (P : Answer → Type 0) : Type 
   pub reads-iso : (n at count : ℕ) → P (storedIso t n at count)
   pub moves : (application : Bool) → P (moved t application)
   pub selects : (n : ℕ) → n ≤ 3 → P (selectedFile t n)
+  pub costs : (n : ℕ) (a : Answer) → P a → P (costing n a)
 
 -- a command of CLA 00 is none of CLA 90
 not-iso : (ins : ℕ) (n m : Name) → named 0x00 ins ≡ Known n → n ≡ m → classOf m ≡ 0x90 → {A : Type 0} → A
@@ -113,16 +114,17 @@ module _ (t : Tag) (c random : List ℕ) (P : Answer → Type 0) (kind : Kinds t
       kind .begins (pendingNext (t .live) x random) (f .key) (or-right (t .place .application) (f .there)))
       (λ e. kind .refuses (nextStatus x (t .live .on)))
 
-  proof-kind : t .pending .on ≡ true → (kx x : List ℕ) (r : Proof) → P (byProof t kx x random r)
-  proof-kind p kx x Right = kind .enters p kx (take 16 (deciphered kx x))
-  proof-kind p kx x NotThirtyTwo = kind .refuses (proofStatus NotThirtyTwo)
-  proof-kind p kx x WrongRndB = kind .refuses (proofStatus WrongRndB)
+  proof-kind : t .pending .on ≡ true → (kx a : List ℕ) (r : Proof) → P (byProof t kx a random r)
+  proof-kind p kx a Right = kind .enters p kx a
+  proof-kind p kx a NotThirtyTwo = kind .refuses (proofStatus NotThirtyTwo)
+  proof-kind p kx a WrongRndB = kind .refuses (proofStatus WrongRndB)
 
   second-kind : (x : List ℕ) → t .pending .on ≡ true → P (partTwoAnswer t x random)
   unfolding partTwoAnswer
   second-kind x p =
       let kx = keyIn (t .secrets .keys) (t .pending .key) in
-      proof-kind p kx x (proofOf kx (t .pending .«rnd_b») x)
+      let two = partTwo kx (t .pending .«rnd_b») x in
+      kind .costs (two .cost) (byProof t kx (two .a) random (two .proof)) (proof-kind p kx (two .a) (two .proof))
 
   id-kind : (id : ℕ) → P (ofId t id)
   unfolding ofId
@@ -247,10 +249,12 @@ module _ (t : Tag) (c random : List ℕ) (P : Answer → Type 0) (kind : Kinds t
     step7-kind : Sends → allows (d .grant) ≡ true → P (fromStep7 t k r d x random)
     unfolding fromStep7 wrapped
     step7-kind s a =
+        let o = openingOf t k x (d .mode) in
+        let n = openingCostOf t k x (d .mode) in
         way P (usedUp (t .live .on) (t .live .counter)) (λ e. kind .refuses _)
         (λ e.
         way P (eqb (k .class) 0x90)
-        (λ e. way P (ltb 255 (length x)) (λ e. kind .refuses 0x917E) (λ e. opening-kind s a (openingOf t k x (d .mode)) refl))
+        (λ e. way P (ltb 255 (length x)) (λ e. kind .refuses 0x917E) (λ e. kind .costs n (onOpening t k r d random o) (opening-kind s a o refl)))
         (λ e. binary-kind))
 
     grant-kind : (g : Grant) → (allows g ≡ true → P (fromStep7 t k r d x random)) → P (onGrant g t k r d x random)

@@ -5,7 +5,7 @@ use lib.Bits.{bitXor}
 use lib.ListN.{take, drop}
 use Rattle.base.specs.Bytes.{byteAt, tab}
 use Rattle.key_expansion.specs.Keys.{keyExpansion}
-use Rattle.cmac.specs.Cmac.{cmac}
+use Rattle.cmac.specs.Cmac.{cmac, cmacCost}
 use Rattle.session_keys.specs.declared.Keys.{Keys}
 
 -- bytes hi down to lo of 16; byte 15 is the first sent
@@ -31,5 +31,9 @@ encKey kx a b = cmac (keyExpansion kx) (0xA5 ∷ 0x5A ∷ context a b)
 unfoldable pub macKey : List ℕ → List ℕ → List ℕ → List ℕ
 macKey kx a b = cmac (keyExpansion kx) (0x5A ∷ 0xA5 ∷ context a b)
 
+-- 02, request 10: what both cost: two CMACs of 32 bytes
+abbrev pub sessionKeysCost : ℕ
+sessionKeysCost = cmacCost 32 + cmacCost 32
+
 unfoldable pub sessionKeys : List ℕ → List ℕ → List ℕ → Keys
-sessionKeys kx a b = record { enc = encKey kx a b; mac = macKey kx a b }
+sessionKeys kx a b = record { enc = encKey kx a b; mac = macKey kx a b; cost = sessionKeysCost }

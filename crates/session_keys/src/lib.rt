@@ -3,10 +3,11 @@ ghost use mathlib.Core.Path.{_≡_};
 ghost use mathlib.Core.List.{_∷_};
 ghost use Rattle.session_keys.specs.Keys.{context, sessionKeys};
 
-// The keys of a session.
+// The keys of a session, and how many blocks were computed for them.
 pub struct Keys {
     pub enc: [u8; 16],
     pub mac: [u8; 16],
+    pub cost: usize,
 }
 
 // The input of a key: a label, and the context of both random numbers.
@@ -37,7 +38,13 @@ pub fn session_keys(kx: [u8; 16], a: [u8; 16], b: [u8; 16]) -> Keys
     let w = key_expansion::expand(kx);
     let one = vector(0xA5, 0x5A, a, b);
     let two = vector(0x5A, 0xA5, a, b);
-    let enc = cmac::cmac_of(&w, &one);
-    let mac = cmac::cmac_of(&w, &two);
-    Keys { enc, mac }
+    let e = cmac::cmac_of(&w, &one);
+    let m = cmac::cmac_of(&w, &two);
+    let enc = e.bytes;
+    let mac = m.bytes;
+    Keys {
+        enc,
+        mac,
+        cost: e.cost + m.cost,
+    }
 }

@@ -33,11 +33,11 @@ laid-reply text n s old mid new e f r p q =
 
 -- what the code's answer says is the reply, and what it notes is noted
 pub replies : (a : Answer) (d : Done) (old new : List ℕ) (n : ℕ) → Gives a d → Laid (withStatus (take (d .length) (d .bytes)) (d .status)) old n new
-    → (m k : Noted) → m ≡ k → Replies a k old (record { outcome = Replied; length = n; tag = d .tag; noted = m }) new
+    → (m k : Noted) → m ≡ k → Replies a k old (record { outcome = Replied; length = n; tag = d .tag; noted = m; cost = d .cost }) new
 unfolding replied replyOf answerOf
 replies a d old new n g h m k e =
     record {
-      told = ap (λ i. record { outcome = Replied; length = i; tag = d .tag; noted = m }) (h .count) ∙ ap₂ replied (g .says) e;
+      told = ap (λ i. record { outcome = Replied; length = i; tag = d .tag; noted = m; cost = d .cost }) (h .count) ∙ ap₂ replied (g .says) e;
       left = h .room ∙ ap (λ x. over (replyOf x) old) (g .says);
       short = h .short;
     }

@@ -39,13 +39,13 @@ refusalNumber Unsound = 3
 unfoldable pub refusalOf : Tag → List ℕ → List ℕ → ℕ
 refusalOf t random room = pick (ltb (length room) 258) 1 (pick (eqb (length random) 20) (pick (soundTag t) 0 3) 2)
 
--- refused: length 0 and the state as it was; the command never got to the access decision
+-- refused: length 0 and the state as it was; the command never got to the access decision, and nothing was computed
 unfoldable pub unanswered : Outcome → Tag → Called
-unanswered o t = record { outcome = o; length = 0; tag = t; noted = Unreached }
+unanswered o t = record { outcome = o; length = 0; tag = t; noted = Unreached; cost = 0 }
 
--- a reply: its length, the next state, and what the journal notes
+-- a reply: its length, the next state, what the journal notes, and what it cost
 unfoldable pub replied : Answer → Noted → Called
-replied a n = record { outcome = Replied; length = length (replyOf a); tag = a .tag; noted = n }
+replied a n = record { outcome = Replied; length = length (replyOf a); tag = a .tag; noted = n; cost = a .cost }
 
 abbrev pub byOutcome : Tag → Answer → Noted → Outcome → Called
 byOutcome t a n Replied = replied a n
@@ -66,6 +66,13 @@ notedBy n Replied = n
 notedBy n SmallRoom = Unreached
 notedBy n WrongRandom = Unreached
 notedBy n Unsound = Unreached
+
+-- how many blocks were computed (02, request 10); before a refusal none
+abbrev pub costBy : Answer → Outcome → ℕ
+costBy a Replied = a .cost
+costBy a SmallRoom = 0
+costBy a WrongRandom = 0
+costBy a Unsound = 0
 
 -- a reply fits into the 258 bytes that a room must have
 pub record Calls (t : Tag) (c random old : List ℕ) (r : Called) (new : List ℕ) : Type 0 where

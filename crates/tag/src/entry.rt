@@ -21,6 +21,7 @@ fn unanswered(outcome: Outcome, tag: Tag) -> Called
         length: 0,
         tag,
         noted: Noted::Unreached,
+        cost: 0,
     }
 }
 
@@ -55,6 +56,7 @@ fn reply(tag: Tag, j: Judged, command: &[u8], random: &[u8], room: &mut [u8]) ->
         length: n,
         tag: t,
         noted,
+        cost: d.cost,
     }
 }
 

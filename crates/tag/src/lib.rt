@@ -17,10 +17,11 @@ pub enum Outcome {
     Unsound,
 }
 
-// The outcome, the reply's length, the next state, and what a journal notes of the call.
+// The outcome, the reply's length, the next state, what a journal notes of the call, and how many AES blocks were computed.
 pub struct Called {
     pub outcome: Outcome,
     pub length: usize,
     pub tag: Tag,
     pub noted: Noted,
+    pub cost: usize,
 }

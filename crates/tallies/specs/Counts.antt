@@ -1,14 +1,18 @@
--- How many lines of a plan did what.
+-- How many lines of a plan did what, and how many AES blocks they took.
 use mathlib.Core.Bool.{Bool}
 use Prim.Native.Nat.{ℕ, _+_}
-use lib.Dec.{eqb, ltb}
+use lib.Dec.{eqb, leb}
 use Rattle.base.specs.Decide.{pick}
 use Rattle.tallies.specs.declared.Went.{Went}
 use Rattle.tallies.specs.declared.Tally.{Tally}
 
--- one more where it is so; a count ends at 2 ^ 64 - 1
+-- so many more; a count ends at 2 ^ 64 - 1
+unfoldable pub sumBy : ℕ → ℕ → ℕ
+sumBy n k = pick (leb (n + k) 18446744073709551615) (n + k) 18446744073709551615
+
+-- one more where it is so
 unfoldable pub moreBy : ℕ → Bool → ℕ
-moreBy n so = pick so (pick (ltb n 18446744073709551615) (n + 1) n) n
+moreBy n so = pick so (sumBy n 1) n
 
 -- the first line that was not as expected
 unfoldable pub firstBy : ℕ → ℕ → Bool → ℕ → ℕ
@@ -25,7 +29,8 @@ countedBy n number w =
       expecting = moreBy (n .expecting) (w .expecting);
       unmet = moreBy (n .unmet) (w .unmet);
       first = firstBy (n .first) (n .unmet) (w .unmet) number;
+      blocks = sumBy (n .blocks) (w .blocks);
     }
 
 unfoldable pub noTally : Tally
-noTally = record { exchanges = 0; refused = 0; skipped = 0; undrawn = 0; expecting = 0; unmet = 0; first = 0 }
+noTally = record { exchanges = 0; refused = 0; skipped = 0; undrawn = 0; expecting = 0; unmet = 0; first = 0; blocks = 0 }

@@ -1,9 +1,9 @@
 // What a line of a plan did, and how many lines did each.
 ghost use mathlib.Core.Path.{_≡_};
-ghost use Rattle.tallies.specs.Counts.{moreBy, firstBy, countedBy, noTally};
+ghost use Rattle.tallies.specs.Counts.{sumBy, moreBy, firstBy, countedBy, noTally};
 
 // What a line did: a command was played, its reply refused; the line was skipped, since the machine gave no random bytes; it expected
-// something, and the reply was not that.
+// something, and the reply was not that. And how many AES blocks were computed for it.
 pub struct Went {
     pub played: bool,
     pub refused: bool,
@@ -11,9 +11,10 @@ pub struct Went {
     pub undrawn: bool,
     pub expecting: bool,
     pub unmet: bool,
+    pub blocks: u64,
 }
 
-// How many lines did each of these; the first line whose reply was not as expected, 0 where none was.
+// How many lines did each of these; the first line whose reply was not as expected, 0 where none was; the AES blocks of all lines.
 pub struct Tally {
     pub exchanges: u64,
     pub refused: u64,
@@ -22,6 +23,17 @@ pub struct Tally {
     pub expecting: u64,
     pub unmet: u64,
     pub first: u64,
+    pub blocks: u64,
+}
+
+// So many more, up to the largest number.
+fn sum(n: u64, k: u64) -> u64
+    ensures { λ r. ⌜ r ≡ sumBy n k ⌝ }
+{
+    if k <= 18446744073709551615 - n {
+        return n + k;
+    }
+    18446744073709551615
 }
 
 // One more where it is so.
@@ -29,9 +41,7 @@ fn more(n: u64, so: bool) -> u64
     ensures { λ r. ⌜ r ≡ moreBy n so ⌝ }
 {
     if so {
-        if n < 18446744073709551615 {
-            return n + 1;
-        }
+        return sum(n, 1);
     }
     n
 }
@@ -60,6 +70,7 @@ pub fn counted(n: Tally, number: u64, w: Went) -> Tally
         expecting: more(n.expecting, w.expecting),
         unmet: more(n.unmet, w.unmet),
         first: first_of(n.first, n.unmet, w.unmet, number),
+        blocks: sum(n.blocks, w.blocks),
     }
 }
 
@@ -75,5 +86,6 @@ pub fn none() -> Tally
         expecting: 0,
         unmet: 0,
         first: 0,
+        blocks: 0,
     }
 }

@@ -9,11 +9,11 @@ use Rattle.base.specs.Status.{operationOk, integrityError, permissionDenied, is
 use Rattle.fields.specs.declared.Head.{Head}
 use Rattle.spans.specs.declared.Reading.{Reading}
 use Rattle.mirror.specs.declared.Mirror.{Mirror}
-use Rattle.mirror.specs.Mirrors.{dynamicData}
+use Rattle.mirror.specs.Mirrors.{dynamicData, dynamicCost}
 use Rattle.state.specs.declared.Tag.{Tag}
 use Rattle.state.specs.declared.Tapping.{Tapping}
 use Rattle.state.specs.State.{fileOf, keyIn, tapped}
-use Rattle.replies.specs.Answer.{Answer, given, refusal}
+use Rattle.replies.specs.Answer.{Answer, givenFor, refusal}
 
 -- the last command was such an accepted read, by the same command
 unfoldable pub goesOn : Tapping → Bool → Bool
@@ -58,9 +58,9 @@ mirrorFor t h =
 unfoldable pub tapText : Tag → Reading → List ℕ
 tapText t r = dynamicData (fileOf (t .files) 2) r (mirrorFor t (r .settings .head))
 
--- the part of it that is asked for
+-- the part of it that is asked for; it costs as much as the whole (02, request 10)
 unfoldable pub tapPart : Tag → Reading → Bool → ℕ → ℕ → Answer
-tapPart t r iso at count = given t (pick iso isoNormal operationOk) (take count (drop at (tapText t r)))
+tapPart t r iso at count = givenFor (dynamicCost r) t (pick iso isoNormal operationOk) (take count (drop at (tapText t r)))
 
 -- a read that starts a tap or goes on with it, or is refused
 unfoldable pub tapRead : Tag → Reading → Bool → ℕ → ℕ → List ℕ → Answer

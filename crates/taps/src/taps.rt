@@ -4,10 +4,12 @@ ghost use Rattle.base.specs.Decide.{pick};
 ghost use Rattle.base.specs.Status.{operationOk, isoNormal};
 ghost use Rattle.state.specs.State.{fileOf};
 ghost use Rattle.spans.specs.Spans.{SpansFit};
+ghost use Rattle.mirror.specs.Mirrors.{dynamicCost, overlaid};
 ghost use Rattle.replies.specs.Answer.{Gives};
 ghost use Rattle.taps.specs.Taps.{goesOn, startStatus, readStatus, counted, started, tapOf, mirrorFor, tapText, tapStatus, tapPart, tapRead};
 use fields::Head;
 use mirror::Mirror;
+use mirror::Overlaid;
 use replies::Done;
 use sdm::Tap;
 use spans::Reading;
@@ -124,9 +126,9 @@ fn second(f: Files) -> [u8; 256]
 }
 
 // File 2 as a tap shows it, while it runs.
-fn tap_text(tag: Tag, r: Reading) -> [u8; 256]
+fn tap_text(tag: Tag, r: Reading) -> Overlaid
     requires { ⌜ SpansFit r ⌝ }
-    ensures { λ s. ⌜ s ≡ tapText tag r ⌝ }
+    ensures { λ s. ⌜ s ≡ overlaid (tapText tag r) (dynamicCost r) ⌝ }
 {
     mirror::lay(second(tag.files), r, mirror_for(tag, r.settings.head))
 }
@@ -150,10 +152,11 @@ fn give_part(tag: Tag, r: Reading, iso: bool, at: usize, count: usize) -> Done
     requires { ⌜ SpansFit r ⌝ }
     ensures { λ d. ⌜ Gives (tapPart tag r iso at count) d ⌝ }
 {
-    let text = tap_text(tag, r);
+    let overlaid = tap_text(tag, r);
+    let text = overlaid.file;
     let p = file_parts::cut(&text, at, count);
     let bytes = p.bytes;
-    replies::give(tag, accepting(iso), bytes, p.length)
+    replies::give(tag, accepting(iso), bytes, p.length, overlaid.cost)
 }
 
 // A read of file 2 that is a tap, by ISOReadBinary or by ReadData; r are its settings.

@@ -12,6 +12,7 @@ use Rattle.forms.specs.Forms.{formOf}
 use Rattle.telling.specs.declared.Why.{Why}
 use Rattle.telling.specs.Exchanges.{exchangeOf, unlikeOf}
 use Rattle.telling.specs.Decision.{accessText}
+use Rattle.telling.specs.Work.{blocksText}
 
 -- "line #: {no command before '/' or '='}{a character that is no hexadecimal digit}{an odd number of digits}{more than 512 bytes}
 -- {behind '/' there must be 20 bytes, 40 digits}{behind '=' there must be 1 to 258 bytes, two digits each, and it comes last}
@@ -37,14 +38,15 @@ unfoldable pub skippedText : ℕ → ℕ → List ℕ
 skippedText number reason =
     formOf true skippedForm (number ∷ []) (eqb reason 1 ∷ eqb reason 2 ∷ eqb reason 3 ∷ eqb reason 4 ∷ eqb reason 5 ∷ eqb reason 6 ∷ eqb reason 7 ∷ [])
 
--- an exchange, how its command was granted, and what was expected where the reply was not that
-unfoldable pub playedText : ℕ → List ℕ → List ℕ → Why → List ℕ → Bool → List ℕ
-playedText number command reply why expected unmet = exchangeOf number command reply ++ accessText why ++ pick unmet (unlikeOf expected) []
+-- an exchange, how its command was granted, the AES blocks that it took, and what was expected where the reply was not that
+unfoldable pub playedText : ℕ → List ℕ → List ℕ → Why → ℕ → List ℕ → Bool → List ℕ
+playedText number command reply why blocks expected unmet =
+    exchangeOf number command reply ++ accessText why ++ blocksText blocks ++ pick unmet (unlikeOf expected) []
 
 -- a line with this number: its command is the first n bytes of c
-unfoldable pub lineText : ℕ → Meaning → List ℕ → List ℕ → Why → List ℕ → Bool → Bool → List ℕ
-lineText number Blank c reply why expected undrawn unmet = []
-lineText number (Bad r) c reply why expected undrawn unmet = skippedText number (reasonNumber r)
-lineText number (Drawn n) c reply why expected undrawn unmet =
-    pick undrawn (skippedText number 7) (playedText number (take n c) reply why expected unmet)
-lineText number (Given n) c reply why expected undrawn unmet = playedText number (take n c) reply why expected unmet
+unfoldable pub lineText : ℕ → Meaning → List ℕ → List ℕ → Why → ℕ → List ℕ → Bool → Bool → List ℕ
+lineText number Blank c reply why blocks expected undrawn unmet = []
+lineText number (Bad r) c reply why blocks expected undrawn unmet = skippedText number (reasonNumber r)
+lineText number (Drawn n) c reply why blocks expected undrawn unmet =
+    pick undrawn (skippedText number 7) (playedText number (take n c) reply why blocks expected unmet)
+lineText number (Given n) c reply why blocks expected undrawn unmet = playedText number (take n c) reply why blocks expected unmet

@@ -4,6 +4,7 @@ mod exchanges;
 mod names;
 mod plain;
 mod turn;
+mod work;
 
 pub use turn::line_text;
 

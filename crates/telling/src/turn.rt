@@ -8,6 +8,7 @@ use crate::Why;
 use crate::decision::access_line;
 use crate::exchanges::exchange;
 use crate::exchanges::unlike;
+use crate::work::blocks_line;
 use forms::append_form;
 use plans::Meaning;
 use plans::Reason;
@@ -49,24 +50,26 @@ fn skipped(number: u64, reason: u8, room: &mut [u8]) -> usize
     )
 }
 
-// A command, its reply, how it was granted and, where the reply is not as expected, what was.
+// A command, its reply, how it was granted, the AES blocks that it took and, where the reply is not as expected, what was.
 fn played(
     number: u64,
     command: &[u8],
     reply: &[u8],
     why: Why,
+    blocks: u64,
     expected: &[u8],
     unmet: bool,
     room: &mut [u8],
 ) -> usize
-    ensures { λ r. ⌜ Lays (playedText number (now (command .entry)) (now (reply .entry)) why (now (expected .entry)) unmet) 0 (now (room .entry)) r (now (room .exit)) ⌝ }
+    ensures { λ r. ⌜ Lays (playedText number (now (command .entry)) (now (reply .entry)) why blocks (now (expected .entry)) unmet) 0 (now (room .entry)) r (now (room .exit)) ⌝ }
 {
     let a = exchange(number, command, reply, room);
     let b = access_line(why, room, a);
+    let c = blocks_line(blocks, room, b);
     if unmet {
-        return unlike(expected, room, b);
+        return unlike(expected, room, c);
     }
-    b
+    c
 }
 
 // The same of the first n bytes of a command.
@@ -76,16 +79,17 @@ fn front(
     c: &[u8],
     reply: &[u8],
     why: Why,
+    blocks: u64,
     e: &[u8],
     unmet: bool,
     room: &mut [u8],
 ) -> usize
-    ensures { λ r. ⌜ Lays (playedText number (take n (now (c .entry))) (now (reply .entry)) why (now (e .entry)) unmet) 0 (now (room .entry)) r (now (room .exit)) ⌝ }
+    ensures { λ r. ⌜ Lays (playedText number (take n (now (c .entry))) (now (reply .entry)) why blocks (now (e .entry)) unmet) 0 (now (room .entry)) r (now (room .exit)) ⌝ }
 {
     if n < c.len() {
-        return played(number, &c[..n], reply, why, e, unmet, room);
+        return played(number, &c[..n], reply, why, blocks, e, unmet, room);
     }
-    played(number, c, reply, why, e, unmet, room)
+    played(number, c, reply, why, blocks, e, unmet, room)
 }
 
 // What a line with this number did: its command is the first bytes of c.
@@ -95,12 +99,13 @@ pub fn line_text(
     c: &[u8],
     reply: &[u8],
     why: Why,
+    blocks: u64,
     e: &[u8],
     undrawn: bool,
     unmet: bool,
     room: &mut [u8],
 ) -> usize
-    ensures { λ r. ⌜ Lays (lineText number m (now (c .entry)) (now (reply .entry)) why (now (e .entry)) undrawn unmet) 0 (now (room .entry)) r (now (room .exit)) ⌝ }
+    ensures { λ r. ⌜ Lays (lineText number m (now (c .entry)) (now (reply .entry)) why blocks (now (e .entry)) undrawn unmet) 0 (now (room .entry)) r (now (room .exit)) ⌝ }
 {
     match m {
         Meaning::Blank => 0,
@@ -109,8 +114,8 @@ pub fn line_text(
             if undrawn {
                 return skipped(number, 7, room);
             }
-            front(number, n, c, reply, why, e, unmet, room)
+            front(number, n, c, reply, why, blocks, e, unmet, room)
         }
-        Meaning::Given(n) => front(number, n, c, reply, why, e, unmet, room),
+        Meaning::Given(n) => front(number, n, c, reply, why, blocks, e, unmet, room),
     }
 }

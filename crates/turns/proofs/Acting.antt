@@ -19,11 +19,11 @@ use Rattle.verdict.specs.Replies.{statusIn, refusing, differing}
 use Rattle.tallies.specs.declared.Went.{Went}
 use Rattle.turns.specs.declared.Turn.{Turn}
 use Rattle.turns.specs.declared.Acted.{Acted}
-use Rattle.turns.specs.Steps.{nextOf, replyTo, wentBy, toldBy, played, stays, Drew, Draws, Carried}
+use Rattle.turns.specs.Steps.{nextOf, replyTo, costOf, wentBy, toldBy, played, stays, Drew, Draws, Carried}
 use Rattle.turns.specs.Acts.{whyWith, actedOf, playedAs, silent, drawnBy, actedBy}
 
 -- what is said of a command, by what was computed for it
-pub went-is : (reply expected : List ℕ) (s : ℕ) (f u : Bool) → s ≡ statusIn reply → f ≡ refusing s → u ≡ differing expected reply
+pub went-is : (reply expected : List ℕ) (k s : ℕ) (f u : Bool) → s ≡ statusIn reply → f ≡ refusing s → u ≡ differing expected reply
     → _≡_ {A = Went}
     (record {
       played = true;
@@ -32,10 +32,11 @@ pub went-is : (reply expected : List ℕ) (s : ℕ) (f u : Bool) → s ≡ statu
       undrawn = false;
       expecting = ltb 0 (length expected);
       unmet = u;
+      blocks = k;
     })
-    (wentBy reply expected)
+    (wentBy reply expected k)
 unfolding wentBy
-went-is reply expected s f u p q r =
+went-is reply expected k s f u p q r =
     λ i. record {
       played = true;
       refused = (q ∙ ap refusing p) i;
@@ -43,10 +44,11 @@ went-is reply expected s f u p q r =
       undrawn = false;
       expecting = ltb 0 (length expected);
       unmet = r i;
+      blocks = k;
     }
 
 -- a turn by what the call answered and left in the room
-pub acted-is : (d : Called) (key : ℕ) (room expected : List ℕ) (w : Went) (y : Why) → w ≡ wentBy (take (d .length) room) expected
+pub acted-is : (d : Called) (key : ℕ) (room expected : List ℕ) (w : Went) (y : Why) → w ≡ wentBy (take (d .length) room) expected (d .cost)
     → y ≡ whyWith (d .noted) key
     → _≡_ {A = Acted} (record { turn = record { tag = d .tag; went = w }; length = d .length; room = room; why = y }) (actedOf d key room expected)
 unfolding actedOf toldBy
@@ -82,7 +84,7 @@ undrew t c expected r p =
 
 -- ---- a line as it is computed is carried out
 played-turn : (t : Tag) (c random expected : List ℕ) → playedAs t c random expected .turn ≡ played t c random expected
-unfolding playedAs actedOf played nextOf replyTo
+unfolding playedAs actedOf played nextOf replyTo costOf
 played-turn t c random expected = refl
 
 silent-turn : (u : Turn) → silent u .turn ≡ u

@@ -26,7 +26,7 @@ whyWith n key = record { how = marksOf n .how; right = marksOf n .right; key = k
 unfoldable pub actedOf : Called → ℕ → List ℕ → List ℕ → Acted
 actedOf d key room expected =
     record {
-      turn = toldBy (d .tag) (take (d .length) room) expected;
+      turn = toldBy (d .tag) (take (d .length) room) expected (d .cost);
       length = d .length;
       room = room;
       why = whyWith (d .noted) key;

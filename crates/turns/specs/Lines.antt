@@ -14,7 +14,8 @@ use Rattle.telling.specs.Turns.{lineText}
 
 -- what is printed of a command, the first bytes of c, by its turn and the reply in the turn's room
 unfoldable pub toldOf : ℕ → Meaning → List ℕ → List ℕ → Acted → List ℕ
-toldOf number m c expected a = lineText number m c (take (a .length) (a .room)) (a .why) expected (a .turn .went .undrawn) (a .turn .went .unmet)
+toldOf number m c expected a =
+    lineText number m c (take (a .length) (a .room)) (a .why) (a .turn .went .blocks) expected (a .turn .went .undrawn) (a .turn .went .unmet)
 
 -- a line that was read, with what it left in the three rooms
 abbrev pub actedIn : Line → Tag → List ℕ → List ℕ → List ℕ → List ℕ → Acted

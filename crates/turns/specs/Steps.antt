@@ -28,9 +28,13 @@ replyTo t c random =
     take (byOutcome t (answered t c random) (noted t c) (outcomeOf t random (replicate 258 0)) .length)
     (roomBy (answered t c random) (replicate 258 0) (outcomeOf t random (replicate 258 0)))
 
--- a command was played: its reply, and what was expected, which is nothing where it has no bytes
-unfoldable pub wentBy : List ℕ → List ℕ → Went
-wentBy reply expected =
+-- the AES blocks that were computed for it
+unfoldable pub costOf : Tag → List ℕ → List ℕ → ℕ
+costOf t c random = byOutcome t (answered t c random) (noted t c) (outcomeOf t random (replicate 258 0)) .cost
+
+-- a command was played: its reply, what was expected, which is nothing where it has no bytes, and the blocks that it took
+unfoldable pub wentBy : List ℕ → List ℕ → ℕ → Went
+wentBy reply expected blocks =
     record {
       played = true;
       refused = refusing (statusIn reply);
@@ -38,13 +42,14 @@ wentBy reply expected =
       undrawn = false;
       expecting = ltb 0 (length expected);
       unmet = differing expected reply;
+      blocks = blocks;
     }
 
-unfoldable pub toldBy : Tag → List ℕ → List ℕ → Turn
-toldBy t reply expected = record { tag = t; went = wentBy reply expected }
+unfoldable pub toldBy : Tag → List ℕ → List ℕ → ℕ → Turn
+toldBy t reply expected blocks = record { tag = t; went = wentBy reply expected blocks }
 
 unfoldable pub played : Tag → List ℕ → List ℕ → List ℕ → Turn
-played t c random expected = toldBy (nextOf t c random) (replyTo t c random) expected
+played t c random expected = toldBy (nextOf t c random) (replyTo t c random) expected (costOf t c random)
 
 -- no command was played, and the tag stays; was the line skipped, and because the machine gave no random bytes?
 unfoldable pub stays : Tag → Bool → Bool → Turn
@@ -58,6 +63,7 @@ stays t skipped undrawn =
         undrawn = undrawn;
         expecting = false;
         unmet = false;
+        blocks = 0;
       };
     }
 

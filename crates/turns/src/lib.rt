@@ -32,9 +32,9 @@ pub struct Taken {
     pub length: usize,
 }
 
-// What is said of a command that was played, by its reply and what was expected of it.
-fn told(reply: &[u8], expected: &[u8]) -> Went
-    ensures { λ r. ⌜ r ≡ wentBy (now (reply .entry)) (now (expected .entry)) ⌝ }
+// What is said of a command that was played, by its reply, what was expected of it and the AES blocks that it took.
+fn told(reply: &[u8], expected: &[u8], blocks: u64) -> Went
+    ensures { λ r. ⌜ r ≡ wentBy (now (reply .entry)) (now (expected .entry)) blocks ⌝ }
 {
     let refused = verdict::refuses(verdict::status_of(reply));
     let unmet = verdict::differs(expected, reply);
@@ -46,6 +46,7 @@ fn told(reply: &[u8], expected: &[u8]) -> Went
         undrawn: false,
         expecting,
         unmet,
+        blocks,
     }
 }
 
@@ -70,7 +71,7 @@ fn play(tag: Tag, command: &[u8], random: &[u8], expected: &[u8]) -> Acted
     let d = tag::call(tag, command, random, &mut room);
     let t = d.tag;
     let length = d.length;
-    let went = told(&room[..length], expected);
+    let went = told(&room[..length], expected, d.cost as u64);
     let turn = Turn { tag: t, went };
     let n = d.noted;
     let why = noted(n, tag.live.key);
@@ -105,6 +106,7 @@ fn still(tag: Tag, skipped: bool, undrawn: bool) -> Acted
         undrawn,
         expecting: false,
         unmet: false,
+        blocks: 0,
     };
     let turn = Turn { tag, went };
     let room = [0u8; 258];
@@ -174,6 +176,7 @@ fn turned(
         c,
         &reply[..n],
         why,
+        went.blocks,
         e,
         went.undrawn,
         went.unmet,

@@ -14,9 +14,10 @@ use Rattle.base.specs.Decide.{oneOf}
 use Rattle.base.specs.Status.{illegalCommandCode}
 use Rattle.messaging.specs.declared.Session.{Session}
 use Rattle.opening.specs.declared.Opened.{Opened}
+use Rattle.opening.specs.declared.OpenedFor.{OpenedFor}
 use Rattle.opening.specs.declared.Opened.the-variants.{Data}
 use Rattle.messaging.specs.Protect.{Opening, plain, wrongLength, wrongMac, wrongPadding}
-use Rattle.opening.specs.Command.{opening, openedStatus, told, left, answers, leaves, Opens}
+use Rattle.opening.specs.Command.{opening, openingCost, openedStatus, told, left, answers, leaves, costs, Opens}
 use Rattle.opening.proofs.Opened.{the-type}
 use Rattle.spans.specs.declared.Reading.{Reading}
 use Rattle.order.specs.declared.Command.{Command}
@@ -29,13 +30,17 @@ use Rattle.order.proofs.Keys.{each, no-key}
 use Rattle.access.specs.declared.Decision.{Decision}
 use Rattle.state.specs.declared.Tag.{Tag}
 use Rattle.replies.specs.Answer.{refusal}
-use Rattle.wrapped.specs.Wrapped.{own, openingOf, onOpening}
+use Rattle.wrapped.specs.Wrapped.{own, openingOf, openingCostOf, onOpening}
 
 -- ---- step 8: what a command opens to
-module _ {x old new : List ℕ} {o : Opening} {r : Opened} (h : Opens x o old r new) (f : length x ≤ 255) (g : length x ≤ length old) where
-  opens-told : r ≡ told o
+module _ {x old new : List ℕ} {o : Opening} {n : ℕ} {r : OpenedFor} (h : Opens x o n old r new) (f : length x ≤ 255) (g : length x ≤ length old) where
+  opens-told : r .opened ≡ told o
   unfolding answers
   opens-told = h .answer ∙ rw (le-ltb 255 (length x) f, le-ltb (length old) (length x) g) refl
+
+  pub opens-cost : r .cost ≡ n
+  unfolding costs
+  opens-cost = h .cost ∙ rw (le-ltb 255 (length x) f, le-ltb (length old) (length x) g) refl
 
   opens-left : new ≡ left old o
   unfolding leaves
@@ -53,15 +58,15 @@ front wrongLength r old new n e l k = let z : _≡_ {A = ℕ} 0 1 = cc in absurd
 front wrongMac r old new n e l k = let z : _≡_ {A = ℕ} 0 1 = cc in absurd (omega arith)
 front wrongPadding r old new n e l k = let z : _≡_ {A = ℕ} 0 1 = cc in absurd (omega arith)
 
-pub data-short : {x old new : List ℕ} {o : Opening} {r : Opened} {n : ℕ} → Opens x o old r new → length x ≤ 255 → length x ≤ length old
-    → r ≡ Data n → n ≤ length new
-data-short {x} {old} {new} {o} {r} {n} h f g e = front o r old new n (opens-told h f g) (opens-left h f g) e .0
+pub data-short : {x old new : List ℕ} {o : Opening} {i : ℕ} {r : OpenedFor} {n : ℕ} → Opens x o i old r new → length x ≤ 255 → length x ≤ length old
+    → r .opened ≡ Data n → n ≤ length new
+data-short {x} {old} {new} {o} {i} {r} {n} h f g e = front o (r .opened) old new n (opens-told h f g) (opens-left h f g) e .0
 
-pub on-opened : {x old new : List ℕ} {o : Opening} {s : Opened} {n : ℕ} (t : Tag) (k : Command) (r : Reading) (d : Decision) (random : List ℕ)
-    → Opens x o old s new → length x ≤ 255 → length x ≤ length old → s ≡ Data n
+pub on-opened : {x old new : List ℕ} {o : Opening} {i : ℕ} {s : OpenedFor} {n : ℕ} (t : Tag) (k : Command) (r : Reading) (d : Decision) (random : List ℕ)
+    → Opens x o i old s new → length x ≤ 255 → length x ≤ length old → s .opened ≡ Data n
     → own (k .name) t k r d (take n new) random ≡ onOpening t k r d random o
-on-opened {x} {old} {new} {o} {s} {n} t k r d random h f g e =
-    ap (onOpening t k r d random) (sym (front o s old new n (opens-told h f g) (opens-left h f g) e .1))
+on-opened {x} {old} {new} {o} {i} {s} {n} t k r d random h f g e =
+    ap (onOpening t k r d random) (sym (front o (s .opened) old new n (opens-told h f g) (opens-left h f g) e .1))
 
 -- a command that is not opened is refused with what the answer says
 refused : (o : Opening) (s : Opened) (t : Tag) (k : Command) (r : Reading) (d : Decision) (random : List ℕ) → s ≡ told o → 1 ≤ tagOf the-type s
@@ -72,17 +77,21 @@ refused wrongLength s t k r d random e h = ap (λ i. refusal t (openedStatus i))
 refused wrongMac s t k r d random e h = ap (λ i. refusal t (openedStatus i)) e
 refused wrongPadding s t k r d random e h = ap (λ i. refusal t (openedStatus i)) e
 
-pub on-refused : {x old new : List ℕ} {o : Opening} {s : Opened} (t : Tag) (k : Command) (r : Reading) (d : Decision) (random : List ℕ)
-    → Opens x o old s new → length x ≤ 255 → length x ≤ length old → OneOf (1 ∷ 2 ∷ 3 ∷ 4 ∷ 5 ∷ []) (tagOf the-type s)
-    → refusal t (openedStatus s) ≡ onOpening t k r d random o
-on-refused {x} {old} {new} {o} {s} t k r d random h f g i =
-    refused o s t k r d random (opens-told h f g)
-    (each (λ j. 1 ≤ j) (1 ∷ 2 ∷ 3 ∷ 4 ∷ 5 ∷ []) (tagOf the-type s) i (lit≤ tt, (lit≤ tt, (lit≤ tt, (lit≤ tt, (lit≤ tt, tt))))))
+pub on-refused : {x old new : List ℕ} {o : Opening} {i : ℕ} {s : OpenedFor} (t : Tag) (k : Command) (r : Reading) (d : Decision) (random : List ℕ)
+    → Opens x o i old s new → length x ≤ 255 → length x ≤ length old → OneOf (1 ∷ 2 ∷ 3 ∷ 4 ∷ 5 ∷ []) (tagOf the-type (s .opened))
+    → refusal t (openedStatus (s .opened)) ≡ onOpening t k r d random o
+on-refused {x} {old} {new} {o} {i} {s} t k r d random h f g j =
+    refused o (s .opened) t k r d random (opens-told h f g)
+    (each (λ j. 1 ≤ j) (1 ∷ 2 ∷ 3 ∷ 4 ∷ 5 ∷ []) (tagOf the-type (s .opened)) j (lit≤ tt, (lit≤ tt, (lit≤ tt, (lit≤ tt, (lit≤ tt, tt))))))
 
 -- the session's own part is all that a message is opened with
 pub same-opening : (t : Tag) (k : Command) (r : Reading) (d : Decision) (x random : List ℕ) (s : Session) → s ≡ sessionOf (t .live)
     → onOpening t k r d random (opening s (d .mode) (k .ins) x (k .header) (k .parted)) ≡ onOpening t k r d random (openingOf t k x (d .mode))
 same-opening t k r d x random s e = ap (λ i. onOpening t k r d random (opening i (d .mode) (k .ins) x (k .header) (k .parted))) e
+
+pub same-cost : (t : Tag) (k : Command) (d : Decision) (x : List ℕ) (s : Session) → s ≡ sessionOf (t .live)
+    → openingCost s (d .mode) (k .ins) x (k .header) (k .parted) ≡ openingCostOf t k x (d .mode)
+same-cost t k d x s e = ap (λ i. openingCost i (d .mode) (k .ins) x (k .header) (k .parted)) e
 
 -- ---- step 9: the commands without a message, by their places among the fourteen
 abbrev messageless : List ℕ

@@ -9,7 +9,7 @@ use Rattle.base.specs.Status.{illegalCommandCode, lengthError}
 use Rattle.messaging.specs.declared.Mode.{Mode}
 use Rattle.messaging.specs.Protect.{Opening, plain, wrongLength, wrongMac, wrongPadding}
 use Rattle.opening.specs.declared.Opened.the-variants.{WrongLength, WrongMac, WrongPadding}
-use Rattle.opening.specs.Command.{opening, openedStatus}
+use Rattle.opening.specs.Command.{opening, openingCost, openedStatus}
 use Rattle.spans.specs.declared.Reading.{Reading}
 use Rattle.order.specs.declared.Name.{Name}
 use Rattle.order.specs.declared.Name.the-variants.{AuthenticateFirst, AuthenticateNonFirst, PartTwo, ChangeKey, GetKeyVersion, GetCardUid}
@@ -18,7 +18,7 @@ use Rattle.order.specs.declared.Name.the-variants.{IsoSelectFile, IsoReadBinary
 use Rattle.order.specs.declared.Command.{Command}
 use Rattle.access.specs.declared.Decision.{Decision}
 use Rattle.state.specs.declared.Tag.{Tag}
-use Rattle.replies.specs.Answer.{Answer, refusal}
+use Rattle.replies.specs.Answer.{Answer, costing, refusal}
 use Rattle.keyring.specs.Keyring.{changedKey, keyVersion}
 use Rattle.details.specs.Details.{cardUid, fileSettings, fileCounters}
 use Rattle.change_settings.specs.ChangeSettings.{changedSettings}
@@ -46,6 +46,10 @@ own IsoUpdateBinary t k r d p random = refusal t illegalCommandCode
 abbrev pub openingOf : Tag → Command → List ℕ → Mode → Opening
 openingOf t k x m = opening (sessionOf (t .live)) m (k .ins) x (k .header) (k .parted)
 
+-- 02, request 10: what that costs
+abbrev pub openingCostOf : Tag → Command → List ℕ → Mode → ℕ
+openingCostOf t k x m = openingCost (sessionOf (t .live)) m (k .ins) x (k .header) (k .parted)
+
 -- wrong data length for the mode 917E; wrong MAC, then wrong padding 911E
 abbrev pub onOpening : Tag → Command → Reading → Decision → List ℕ → Opening → Answer
 onOpening t k r d random (plain p) = own (k .name) t k r d p random
@@ -53,7 +57,8 @@ onOpening t k r d random wrongLength = refusal t (openedStatus WrongLength)
 onOpening t k r d random wrongMac = refusal t (openedStatus WrongMac)
 onOpening t k r d random wrongPadding = refusal t (openedStatus WrongPadding)
 
--- no message has over 255 bytes
+-- no message has over 255 bytes; what opening it costs comes to what its answer costs
 unfoldable pub wrapped : Tag → Command → Reading → Decision → List ℕ → List ℕ → Answer
 wrapped t k r d x random =
-    pick (ltb 255 (length x)) (refusal t lengthError) (onOpening t k r d random (openingOf t k x (d .mode)))
+    pick (ltb 255 (length x)) (refusal t lengthError)
+    (costing (openingCostOf t k x (d .mode)) (onOpening t k r d random (openingOf t k x (d .mode))))

@@ -4,8 +4,8 @@ ghost use Prim.Native.Nat.{_≤_};
 ghost use lib.ListN.{length, take};
 ghost use Rattle.spans.specs.Spans.{SpansFit};
 ghost use Rattle.opening.specs.Command.{openedStatus};
-ghost use Rattle.replies.specs.Answer.{Gives};
-ghost use Rattle.wrapped.specs.Wrapped.{own, openingOf, onOpening, wrapped};
+ghost use Rattle.replies.specs.Answer.{Gives, answerOf, costing};
+ghost use Rattle.wrapped.specs.Wrapped.{own, openingOf, openingCostOf, onOpening, wrapped};
 use access::Decision;
 use opening::Opened;
 use order::Command;
@@ -73,19 +73,30 @@ fn on_data(
     own(name, tag, k, r, d, &plain[..n], random)
 }
 
+// An answer for n blocks more.
+fn costed(d: Done, n: usize) -> Done
+    requires { ⌜ (d .length ≤ 256) × (d .cost ≤ 64) × (n ≤ 64) ⌝ }
+    ensures { λ r. ⌜ Gives (costing n (answerOf d)) r ⌝ }
+{
+    let mut r = d;
+    r.cost = n + d.cost;
+    r
+}
+
 // Steps 8 and 9 of a message of at most 255 bytes.
 fn on_message(tag: Tag, k: Command, r: Reading, d: Decision, x: &[u8], random: [u8; 20]) -> Done
     requires { ⌜ SpansFit r ⌝ }
     requires { ⌜ length (now x) ≤ 255 ⌝ }
-    ensures { λ y. ⌜ Gives (onOpening tag k r d random (openingOf tag k (now (x .entry)) (d .mode))) y ⌝ }
+    ensures { λ y. ⌜ Gives (costing (openingCostOf tag k (now (x .entry)) (d .mode)) (onOpening tag k r d random (openingOf tag k (now (x .entry)) (d .mode)))) y ⌝ }
 {
     let mut plain = [0u8; 256];
     let s = state::session_of(tag.live);
     let m = d.mode;
     let o = opening::open(s, m, k.ins, x, k.header, k.parted, &mut plain);
-    match o {
-        Opened::Data(n) => on_data(tag, k, r, d, plain, n, random),
-        _ => replies::refuse(tag, opened_status(o)),
+    let opened = o.opened;
+    match opened {
+        Opened::Data(n) => costed(on_data(tag, k, r, d, plain, n, random), o.cost),
+        _ => costed(replies::refuse(tag, opened_status(opened)), o.cost),
     }
 }
 

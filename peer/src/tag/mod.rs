@@ -8,6 +8,7 @@ mod mirror;
 mod tests;
 mod wrapped;
 
+use crate::aes::counted;
 use crate::command::{Command, Native};
 use crate::grant::Grant;
 use crate::messaging::{Pending, Session};
@@ -95,6 +96,16 @@ struct Call<'a> {
     grant: Grant,
 }
 
+/// What a call answers.
+pub struct Explained {
+    /// Data and two status bytes.
+    pub reply: Vec<u8>,
+    /// Why the command was granted.
+    pub grant: Grant,
+    /// How many AES blocks the tag computed.
+    pub blocks: usize,
+}
+
 impl Tag {
     /// A fresh tag; none where the UID isn't 7 bytes that start with 04.
     pub fn fresh(uid: &[u8]) -> Option<Tag> {
@@ -130,21 +141,26 @@ impl Tag {
 
     /// One call: data and two status bytes.
     pub fn exchange(&mut self, command: &[u8], random: &Random) -> Vec<u8> {
-        self.explained(command, random).0
+        self.explained(command, random).reply
     }
 
-    /// One call: data and two status bytes, and why it was granted.
-    pub fn explained(&mut self, command: &[u8], random: &Random) -> (Vec<u8>, Grant) {
+    /// One call: the reply, why it was granted and the blocks it took.
+    pub fn explained(&mut self, command: &[u8], random: &Random) -> Explained {
         let mut call = Call {
             random,
             tap: self.end_tap(),
             grant: Grant::NotAsked,
         };
-        let reply = self.answer(command, &mut call).unwrap_or_else(|status| {
+        let (answer, blocks) = counted(|| self.answer(command, &mut call));
+        let reply = answer.unwrap_or_else(|status| {
             self.set_phase(Phase::Idle);
             Reply::refusal(status)
         });
-        (reply.into_bytes(), call.grant)
+        Explained {
+            reply: reply.into_bytes(),
+            grant: call.grant,
+            blocks,
+        }
     }
 
     fn answer(&mut self, command: &[u8], call: &mut Call) -> Answer<Reply> {

@@ -100,8 +100,10 @@ fn a_full_cmd_ctr() {
         (1, "00A4000C02E103", "9000", "none"),
     ] {
         let mut tag = in_session(key, LAST_CMD_CTR);
-        let (ours, why) = tag.explained(&bytes(command), &[0; 20]);
-        assert_eq!((hex(&ours), why.to_string()), (reply.into(), grant.into()));
+        let ours = tag.explained(&bytes(command), &[0; 20]);
+        assert_eq!(hex(&ours.reply), reply);
+        assert_eq!(ours.grant.to_string(), grant);
+        assert_eq!(ours.blocks, 0);
     }
     let mut tag = in_session(1, LAST_CMD_CTR);
     assert!(send(&mut tag, "90770000010400").ends_with("91AF"));
@@ -134,7 +136,8 @@ fn the_end_of_the_tap_counter() {
         assert_eq!(&bytes(&reply)[16..22], b"FFFFFF");
         assert!(send(&mut tag, read).ends_with(done));
         assert_eq!(send(&mut tag, "90F60000010200"), "FFFFFF00009100");
-        assert_eq!(send(&mut tag, read), over);
+        let refused = tag.explained(&bytes(read), &[0; 20]);
+        assert_eq!((hex(&refused.reply), refused.blocks), (over.into(), 0));
         assert_eq!(tag.counter, LAST_COUNTER);
         assert!(tag.tap().is_none());
     }

@@ -9,13 +9,14 @@ mod files;
 mod iso;
 mod strings;
 mod tally;
+pub mod taps;
 
 pub use tally::Tally;
 
-use crate::grant::Grant;
+use crate::beside::Beside;
 use crate::log::{Exchange, Log};
 use crate::rng::Rng;
-use crate::tag::{Tag, Uid, LAST_CMD_CTR};
+use crate::tag::{Explained, Tag, Uid, LAST_CMD_CTR};
 
 /// A talk of more exchanges than this begins with a session that is worn out: its CmdCtr
 /// is driven to its end.
@@ -33,13 +34,8 @@ struct Talk {
     wear: Option<u16>,
 }
 
-/// One talk from a fresh tag, and why each exchange was granted; seed and index fix it.
-pub fn talk(
-    seed: u64,
-    index: u64,
-    exchanges: usize,
-    tally: &mut Tally,
-) -> Option<(Log, Vec<Grant>)> {
+/// One talk from a fresh tag, and what stands beside it; seed and index fix it.
+pub fn talk(seed: u64, index: u64, exchanges: usize, tally: &mut Tally) -> Option<(Log, Beside)> {
     let mut rng = Rng::new(seed ^ Rng::new(index).draw());
     let mut uid: Uid = rng.array();
     uid[0] = 0x04;
@@ -50,8 +46,10 @@ pub fn talk(
         wear: (exchanges > WORN_FROM).then(|| LAST_CMD_CTR - rng.below(4) as u16),
         rng,
     };
-    let (exchanges, grants) = (0..exchanges).map(|_| talk.exchange(tally)).unzip();
-    Some((Log { uid, exchanges }, grants))
+    let mut beside = Beside::default();
+    let exchanges = (0..exchanges).map(|_| talk.exchange(tally, &mut beside));
+    let exchanges = exchanges.collect();
+    Some((Log { uid, exchanges }, beside))
 }
 
 impl Talk {
@@ -63,7 +61,7 @@ impl Talk {
         }
     }
 
-    fn exchange(&mut self, tally: &mut Tally) -> (Exchange, Grant) {
+    fn exchange(&mut self, tally: &mut Tally, beside: &mut Beside) -> Exchange {
         let mut command = self.compose();
         let harm = self.in_care(self.harm, 6);
         if self.wear.is_none() && self.rng.chance(harm) {
@@ -71,16 +69,17 @@ impl Talk {
         }
         let random = self.rng.array();
         let before = tally::Before::of(&self.tag);
-        let (reply, grant) = self.tag.explained(&command, &random);
-        tally.count_grant(grant);
+        let explained = self.tag.explained(&command, &random);
+        tally.count_explained(&explained);
+        beside.push(&explained);
+        let Explained { reply, .. } = explained;
         if !tally.count(&before, &self.tag, &command, &reply) {
             self.wear = None;
         }
-        let exchange = Exchange {
+        Exchange {
             command,
             reply,
             random,
-        };
-        (exchange, grant)
+        }
     }
 }

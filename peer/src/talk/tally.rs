@@ -3,8 +3,7 @@
 use std::collections::BTreeMap;
 use std::fmt;
 
-use crate::grant::Grant;
-use crate::tag::Tag;
+use crate::tag::{Explained, Tag};
 
 /// How often each thing happened.
 #[derive(Default)]
@@ -18,6 +17,7 @@ pub struct Tally {
     taps: usize,
     settings_changed: usize,
     keys_changed: usize,
+    blocks: usize,
     statuses: BTreeMap<String, usize>,
     grants: BTreeMap<String, usize>,
 }
@@ -83,9 +83,10 @@ impl Tally {
         accepted
     }
 
-    /// Counts why an exchange was granted.
-    pub(super) fn count_grant(&mut self, grant: Grant) {
-        *self.grants.entry(grant.to_string()).or_default() += 1;
+    /// Counts why an exchange was granted, and its blocks.
+    pub(super) fn count_explained(&mut self, explained: &Explained) {
+        *self.grants.entry(explained.grant.to_string()).or_default() += 1;
+        self.blocks += explained.blocks;
     }
 }
 
@@ -101,6 +102,7 @@ impl fmt::Display for Tally {
             ("taps started", self.taps),
             ("settings changed", self.settings_changed),
             ("keys changed", self.keys_changed),
+            ("blocks", self.blocks),
         ];
         for (what, sum) in rows {
             writeln!(out, "{what:<22}{sum:>9}")?;

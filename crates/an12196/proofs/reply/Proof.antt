@@ -12,8 +12,8 @@ slice-aggregate-close c = search needs
 close-requires : tie.Need-close-requires
 close-requires c κs = search needs
 
-enum-known-n : tie.Need-enum-known-n
-enum-known-n c = search needs
+enum-known-closed : tie.Need-enum-known-closed
+enum-known-closed c = search needs
 
 array-share-prefix-room : tie.Need-array-share-prefix-room
 array-share-prefix-room c = search needs
@@ -57,7 +57,7 @@ reply-spec =
     (tie.spec
     slice-aggregate-close
     close-requires
-    enum-known-n
+    enum-known-closed
     array-share-prefix-room
     slice-aggregate-compare
     compare-requires

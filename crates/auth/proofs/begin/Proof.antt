@@ -1,9 +1,11 @@
-use mathlib.Core.Path.{_≡_}
+use mathlib.Core.Path.{_≡_, ap}
 use native.Mathlib.Omega.{arith}
 use lib.ListN.{length}
 use Rattle.replies.proofs.Equal.{gives-as}
-use Rattle.auth.specs.Parts.{begun}
 use Rattle.replies.proofs.Given.{room-given}
+use Rattle.replies.specs.Answer.{roomGiven}
+use Rattle.auth.specs.Parts.{begun}
+use borrow.Author.Needs.{needs}
 use borrow.Author.Needs.{needs}
 use Rattle.auth.proofs.begin.Statement.{statement}
 use Rattle.auth.proofs.begin.Tie as tie
@@ -29,14 +31,15 @@ give-text-requires c κs = search needs
 returns : tie.Need-returns
 unfolding begun
 returns c =
-    let e = c .before .before .before .before .part-one .result in
-    let l : length e ≡ 16 = search needs in
+    let e = c .before .before .before .before .before .part-one in
+    let l : length (e .result .bytes) ≡ 16 = search needs in
     rw (
-      ← c .before .before .before .before .before .key-of .ensures,
-      ← c .before .before .before .before .part-one .ensures,
+      ← c .before .before .before .before .before .before .key-of .ensures,
+      ← ap (λ x. x .bytes) (e .ensures),
+      ← ap (λ x. x .cost) (e .ensures),
       ← c .before .before .before .no-live .ensures,
       ← c .before .before .talking .ensures,
-    ) (gives-as (c .give-text .ensures) (room-given (c .before .before .talking .result) 0x91AF e (omega arith)))
+    ) (gives-as (c .give-text .ensures) (room-given (e .result .cost) (c .before .before .talking .result) 0x91AF (e .result .bytes) (omega arith)))
 
 pub begin-spec : {M : Type 1} → statement M
 begin-spec =

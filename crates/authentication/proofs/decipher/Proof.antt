@@ -1,10 +1,11 @@
 -- `authentication::decipher` meets its contract: 32 bytes laid over 32, then decrypted.
-use Rattle.authentication.specs.Authentication.{deciphered, zeros}
-use Rattle.cbc.proofs.Turns.{chains-whole}
-use Rattle.base.proofs.Bytes.{laid-whole}
-use Rattle.cbc.specs.Cbc.{cbcBack}
-use lib.ListN.{length}
 use mathlib.Core.Path.{_≡_, refl, ap, ap₂, _∙_}
+use lib.ListN.{length}
+use Rattle.base.proofs.Bytes.{laid-whole}
+use Rattle.cbc.specs.Cbc.{cbcBack, cbcCost}
+use Rattle.cbc.proofs.Turns.{chains-whole, chains-cost}
+use Rattle.authentication.specs.Authentication.{deciphered, zeros, paired}
+use borrow.Author.Needs.{needs}
 use borrow.Author.Needs.{needs}
 use Rattle.authentication.proofs.decipher.Statement.{statement}
 use Rattle.authentication.proofs.decipher.Tie as tie
@@ -27,13 +28,12 @@ cbc-decrypt-requires c κs = search needs
 returns : tie.Need-returns
 unfolding deciphered
 returns c =
-    let c5 = c .before .before .before .before .before in
-    let c7 = c5 .before .before in
-    let c9 = c7 .before .before in
-    let x = c9 .args .x .now in
-    let l : length x ≡ 32 = c9 .pre in
-    let e = c5 .put .ensures ∙ laid-whole x (zeros 32) l in
-    chains-whole (c .before .cbc-decrypt .ensures) (rw (ap length e ∙ l) refl) ∙ ap₂ (λ w y. cbcBack w (zeros 16) y) (c7 .expand .ensures) e
+    let x = c .before .before .before .before .before .before .before .before .before .args .x .now in
+    let l : length x ≡ 32 = c .before .before .before .before .before .before .before .before .before .pre in
+    let e = c .before .before .before .before .before .put .ensures ∙ laid-whole x (zeros 32) l in
+    let h = c .before .cbc-decrypt .ensures in
+    ap₂ paired (chains-whole h (rw (ap length e ∙ l) refl) ∙ ap₂ (λ w y. cbcBack w (zeros 16) y) (c .before .before .before .before .before .before .before .expand .ensures) e)
+    (chains-cost h (rw (ap length e ∙ l) refl) ∙ ap cbcCost (ap length e ∙ l))
 
 pub decipher-spec : {M : Type 1} → statement M
 decipher-spec =

@@ -1,9 +1,11 @@
 -- `authentication::encipher_one` meets its contract: a block is whole.
-use Rattle.cbc.proofs.Turns.{chains-whole}
-use Rattle.cbc.specs.Cbc.{cbcOut}
-use Rattle.authentication.specs.Authentication.{enciphered}
+use mathlib.Core.Path.{_≡_, refl, ap, ap₂, _∙_}
 use lib.ListN.{length}
-use mathlib.Core.Path.{_≡_, refl, ap, _∙_}
+use Rattle.cbc.specs.Cbc.{cbcOut, cbcCost}
+use Rattle.cbc.proofs.Turns.{chains-whole, chains-cost}
+use Rattle.authentication.specs.Authentication.{enciphered}
+use Rattle.aes.specs.Block.{ciphered}
+use borrow.Author.Needs.{needs}
 use borrow.Author.Needs.{needs}
 use Rattle.authentication.proofs.encipher_one.Statement.{statement}
 use Rattle.authentication.proofs.encipher_one.Tie as tie
@@ -19,8 +21,11 @@ cbc-encrypt-requires c κs = search needs
 
 returns : tie.Need-returns
 unfolding enciphered
-returns c = let x = c .before .before .before .before .before .args .x in let l : length x ≡ 16 = search needs in
-    chains-whole (c .before .cbc-encrypt .ensures) (rw l refl) ∙ ap (λ w. cbcOut w _ x) (c .before .before .before .before .expand .ensures)
+returns c =
+    let x = c .before .before .before .before .before .args .x in
+    let l : length x ≡ 16 = search needs in
+    let e = c .before .cbc-encrypt .ensures in
+    ap₂ ciphered (chains-whole e (rw l refl) ∙ ap (λ w. cbcOut w _ x) (c .before .before .before .before .expand .ensures)) (chains-cost e (rw l refl) ∙ ap cbcCost l)
 
 pub encipher-one-spec : {M : Type 1} → statement M
 encipher-one-spec =

@@ -1,12 +1,14 @@
 -- `authentication::first_reply` meets its contract: four pieces fill the buffer.
+use mathlib.Core.Path.{_≡_, ap, _∙_}
 use mathlib.Core.List.{_++_}
-use Rattle.authentication.specs.Authentication.{firstReply, enciphered, zeros}
-use Rattle.base.proofs.Pieces.{also, full}
-use Rattle.base.proofs.Bytes.{none}
 use native.Mathlib.Omega.{arith}
 use lib.ListN.{length}
+use Rattle.base.proofs.Bytes.{none}
+use Rattle.base.proofs.Pieces.{also, full}
 use Prim.Native.Nat.{_+_}
-use mathlib.Core.Path.{_≡_, ap, _∙_}
+use Rattle.cbc.specs.Cbc.{cbcCost}
+use Rattle.authentication.specs.Authentication.{zeros, enciphered, firstReply, paired}
+use borrow.Author.Needs.{needs}
 use borrow.Author.Needs.{needs}
 use Rattle.authentication.proofs.first_reply.Statement.{statement}
 use Rattle.authentication.proofs.first_reply.Tie as tie
@@ -56,19 +58,17 @@ encipher-two-requires c κs = search needs
 returns : tie.Need-returns
 unfolding firstReply
 returns c =
-    let c17 = c .before .before .before .before .before .before .before .before .before .before .before .before .before .before .before .before .before in
-    let c18 = c17 .before in
-    let a = c18 .args in
+    let a = c .before .before .before .before .before .before .before .before .before .before .before .before .before .before .before .before .before .before .args in
     let l : length (a .t2) ≡ 4 = search needs in
     let m : length (a .t4) ≡ 6 = search needs in
-    let n : length (c17 .turn .result) ≡ 16 = search needs in
+    let n : length (c .before .before .before .before .before .before .before .before .before .before .before .before .before .before .before .before .before .turn .result) ≡ 16 = search needs in
     let c6 = c .before .before .before .before .before .before in
-    let c10 = c6 .before .before .before .before in
-    let c14 = c10 .before .before .before .before in
-    c .encipher-two .ensures ∙ ap (enciphered (a .kx))
-    (full (also (also (also (also (none _) (a .t2) 4 (omega arith) (omega arith) (c14 .put .ensures)) (c17 .turn .result) 20 (omega arith) (omega arith)
-    (c10 .put2 .ensures)) (zeros 6) 26 (omega arith) (omega arith) (c6 .put3 .ensures)) (a .t4) 32 (omega arith) (omega arith)
-    (c .before .before .put4 .ensures)) (omega arith) ∙ ap (λ t. a .t2 ++ t ++ zeros 6 ++ a .t4) (c17 .turn .ensures))
+    let c12 = c6 .before .before .before .before .before .before in
+    c .encipher-two .ensures ∙ ap (λ x. paired (enciphered (a .kx) x) (cbcCost 32))
+    (full (also (also (also (also (none _) (a .t2) 4 (omega arith) (omega arith) (c12 .before .before .put .ensures))
+    (c12 .before .before .before .before .before .turn .result) 20 (omega arith) (omega arith)
+    (c6 .before .before .before .before .put2 .ensures)) (zeros 6) 26 (omega arith) (omega arith) (c6 .put3 .ensures)) (a .t4) 32 (omega arith) (omega arith)
+    (c .before .before .put4 .ensures)) (omega arith) ∙ ap (λ t. a .t2 ++ t ++ zeros 6 ++ a .t4) (c12 .before .before .before .before .before .turn .ensures))
 
 pub first-reply-spec : {M : Type 1} → statement M
 first-reply-spec =

@@ -1,28 +1,30 @@
--- `cmac::cmac_of` meets its contract: the CMAC of what is left stays the CMAC of the whole.
-use mathlib.Core.Path.{_≡_, refl, sym, ap, _∙_}
-use Prim.Native.Nat.{_-_, _≤_}
+-- `cmac::cmac_of` meets its contract: the CMAC of what is left stays the CMAC of the whole, and so does the number of its blocks.
+use mathlib.Core.Path.{_≡_, refl, sym, ap, ap₂, _∙_}
+use Prim.Native.Nat.{_+_, _-_, _*_, _≤_}
 use native.Mathlib.Omega.{arith}
 use lib.ListN.{length, take, drop, length-drop}
 use lib.Seq.{drop-drop, take-all}
 use Rattle.cbc.proofs.Turns.{block-inside}
-use Rattle.aes.specs.Block.{cipher, xorBlock}
-use Rattle.cmac.specs.Cmac.{lastBlock}
-use Rattle.cmac.proofs.Macs.{from, from-more, from-last, from-start}
+use Rattle.aes.specs.Block.{cipher, xorBlock, ciphered}
+use Rattle.cmac.specs.Cmac.{lastBlock, blocksOf, cmacCost}
+use Rattle.cmac.proofs.Macs.{from, from-more, from-last, from-start, blocks-turn, blocks-one}
 use borrow.Author.Needs.{needs}
 use Rattle.cmac.proofs.cmac_of.Statement.{statement}
 use Rattle.cmac.proofs.cmac_of.Tie as tie
 
 abbrev Inv-loop : tie.InvT-loop
-Inv-loop w s t v₀ at₀ v at = (at ≤ length s) × (from w v (drop at s) ≡ from w v₀ s)
+Inv-loop w s t v₀ cost₀ at₀ v cost at = (at ≤ length s) × ((from w v (drop at s) ≡ from w v₀ s) × ((cost * 16 ≡ at) × (cost + blocksOf (length s - at) ≡ blocksOf (length s))))
 
 abbrev μ-loop : tie.MeasureT-loop
-μ-loop w s t v₀ at₀ v at = length s - at
+μ-loop w s t v₀ cost₀ at₀ v cost at = length s - at
 
 mixing-requires : tie.Need-mixing-requires Inv-loop μ-loop
 mixing-requires c κs = search needs
 
 loop-holds : tie.Need-loop-holds Inv-loop μ-loop
-loop-holds c = (omega arith, refl)
+loop-holds c =
+    let s = c .before .before .args .s .now in
+    let z : length s - 0 ≡ length s = omega arith in (omega arith, (refl, (omega arith, omega (arith, ap blocksOf z))))
 
 add-loop : tie.Need-add-loop Inv-loop μ-loop
 add-loop c = search needs
@@ -36,6 +38,9 @@ xor-block-requires c κs = search needs
 encrypt-with-requires : tie.Need-encrypt-with-requires Inv-loop μ-loop
 encrypt-with-requires c κs = search needs
 
+add-cost : tie.Need-add-cost Inv-loop μ-loop
+add-cost c = omega (arith, c .before .before .before .before .before .before .before .loop .inv .1 .1 .0, c .before .before .encrypt-with .ensures .cost)
+
 add-at : tie.Need-add-at Inv-loop μ-loop
 add-at c = search needs
 
@@ -44,15 +49,20 @@ loop-less c = search needs
 
 loop-again : tie.Need-loop-again Inv-loop μ-loop
 loop-again c =
-    let c5 = c .before .before .before .before .before in
-    let c8 = c5 .before .before .before in
-    let a = c8 .args in
+    let l = c .before .before .before .before .before .before .before .loop in
+    let a = c .before .before .before .before .before .before .before .before .before .before .args in
     let s = a .s .now in
-    let e : c .encrypt-with .result ≡ cipher (a .w .now) (xorBlock (take 16 (drop (c5 .loop .at) s)) (c5 .loop .v)) = c .encrypt-with .ensures .standard (search needs)
-    ∙ rw (c .before .xor-block .ensures, c .before .before .load .ensures, block-inside s (c5 .loop .at) (omega arith)) refl in (
+    let g = c .before .before .encrypt-with .ensures in
+    let e : c .before .before .encrypt-with .result .bytes ≡ cipher (a .w .now) (xorBlock (take 16 (drop (l .at) s)) (l .v)) = g .standard (search needs)
+    ∙ rw (c .before .before .before .xor-block .ensures, c .before .before .before .before .load .ensures, block-inside s (l .at) (omega arith)) refl in
+    let b = blocks-turn (length s - l .at) (omega arith) in
+    let k : length s - l .at - 16 ≡ length s - (l .at + 16) = omega arith in (
       omega arith,
-      rw (e, ← drop-drop 16 (c5 .loop .at) s)
-          (sym (from-more (a .w .now) (c5 .loop .v) (drop (c5 .loop .at) s) (simp length-drop (omega arith))) ∙ c5 .loop .inv .1),
+      (
+        rw (e, ← drop-drop 16 (l .at) s)
+            (sym (from-more (a .w .now) (l .v) (drop (l .at) s) (simp length-drop (omega arith))) ∙ l .inv .1 .0),
+        (omega (arith, l .inv .1 .1 .0, g .cost), omega (arith, l .inv .1 .1 .1, g .cost, b, ap blocksOf k)),
+      ),
     )
 
 sub-last-block : tie.Need-sub-last-block Inv-loop μ-loop
@@ -73,16 +83,30 @@ xor-block-requires-2 c κs = search needs
 encrypt-with-requires-2 : tie.Need-encrypt-with-requires-2 Inv-loop μ-loop
 encrypt-with-requires-2 c κs = search needs
 
+add-t22 : tie.Need-add-t22 Inv-loop μ-loop
+add-t22 c =
+    let c6 = c .before .before .before .before .before .before in
+    omega (arith, c6 .before .before .before .before .loop .inv .1 .1 .0, ap (λ x. x .cost) (c6 .last-block .ensures))
+
+add-t27 : tie.Need-add-t27 Inv-loop μ-loop
+add-t27 c =
+    let c6 = c .before .before .before .before .before .before in
+    omega (arith, c6 .before .before .before .before .before .loop .inv .1 .1 .0, ap (λ x. x .cost) (c6 .before .last-block .ensures), c .before .before .before .encrypt-with2 .ensures .cost)
+
 returns : tie.Need-returns Inv-loop μ-loop
+unfolding cmacCost
 returns c =
-    let c7 = c .before .before .before .before .before .before .before in
-    let c10 = c7 .before .before .before in
-    let a = c10 .args in
+    let l = c .before .before .before .before .before .before .before .before .before .before .before .loop in
+    let a = c .before .before .before .before .before .before .before .before .before .before .before .before .before .before .args in
     let s = a .s .now in
-    c .encrypt-with2 .ensures .standard (search needs) ∙ rw (c .before .xor-block2 .ensures, c .before .before .last-block .ensures)
-    (ap (λ l. cipher (a .w .now) (xorBlock (lastBlock (a .w .now) l) (c7 .loop .v)))
-    (take-all (length s - c7 .loop .at) (drop (c7 .loop .at) s) (simp length-drop (omega arith)))
-    ∙ sym (from-last (a .w .now) (c7 .loop .v) (drop (c7 .loop .at) s) (simp length-drop (omega arith))) ∙ c7 .loop .inv .1 ∙ sym (from-start (a .w .now) s))
+    let g = c .before .before .before .encrypt-with2 .ensures in
+    let h = c .before .before .before .before .before .before .before .last-block .ensures in
+    ap₂ ciphered
+    (g .standard (search needs) ∙ rw (c .before .before .before .before .xor-block2 .ensures, h)
+    (ap (λ l′. cipher (a .w .now) (xorBlock (lastBlock (a .w .now) l′) (l .v)))
+    (take-all (length s - l .at) (drop (l .at) s) (simp length-drop (omega arith)))
+    ∙ sym (from-last (a .w .now) (l .v) (drop (l .at) s) (simp length-drop (omega arith))) ∙ l .inv .1 .0 ∙ sym (from-start (a .w .now) s)))
+    (omega (arith, l .inv .1 .1 .1, blocks-one (length s - l .at) (omega arith), g .cost, ap (λ x. x .cost) h))
 
 pub cmac-of-spec : {M : Type 1} → statement M
 cmac-of-spec =
@@ -96,6 +120,7 @@ cmac-of-spec =
     load-requires
     xor-block-requires
     encrypt-with-requires
+    add-cost
     add-at
     loop-less
     loop-again
@@ -105,4 +130,6 @@ cmac-of-spec =
     last-block-requires
     xor-block-requires-2
     encrypt-with-requires-2
+    add-t22
+    add-t27
     returns)

@@ -1,9 +1,10 @@
 -- `cmac::last_block` meets its contract.
-use mathlib.Core.Path.{_≡_, refl, _∙_}
+use mathlib.Core.Path.{_≡_, refl, ap₂, _∙_}
 use native.Mathlib.Omega.{arith}
 use borrow.Author.Tests.{eq-eqb, ne-eqb}
 use lib.ListN.{length}
 use lib.Seq.{take-all}
+use Rattle.aes.specs.Block.{ciphered}
 use Rattle.cbc.proofs.Turns.{block-inside}
 use Rattle.cmac.specs.Cmac.{subkey1, subkey2, lastBlock}
 use borrow.Author.Needs.{needs}
@@ -26,21 +27,20 @@ xor-block-requires c κs = search needs
 returns : tie.Need-returns
 unfolding lastBlock subkey1
 returns c =
-    let c4 = c .before .before .before .before in
-    let c6 = c4 .before .before in
-    let s = c6 .args .s .now in
+    let s = c .before .before .before .before .before .before .before .args .s .now in
     let h : length s ≡ 16 = c .before .before .if1 .taken in
-    c .xor-block .ensures ∙ rw (
+    let w = c .before .before .before .before .before .encrypt-with .ensures in
+    ap₂ ciphered (c .xor-block .ensures ∙ rw (
       c .before .load .ensures,
       block-inside s 0 (omega arith),
       c .before .before .before .double-block .ensures,
-      c4 .encrypt-with .ensures .standard (search needs),
+      w .standard (search needs),
       take-all 16 s (omega arith),
       eq-eqb (length s) 16 h,
-    ) refl
+    ) refl) (w .cost)
 
 padded-requires : tie.Need-padded-requires
-padded-requires c κs = omega (arith, c .if1 .left, c .before .before .before .before .pre .1)
+padded-requires c κs = search needs
 
 double-block-requires-2 : tie.Need-double-block-requires-2
 double-block-requires-2 c κs = search needs
@@ -51,17 +51,15 @@ xor-block-requires-2 c κs = search needs
 returns-2 : tie.Need-returns-2
 unfolding lastBlock subkey1 subkey2
 returns-2 c =
-    let c4 = c .before .before .before .before in
-    let c5 = c4 .before in
-    let c7 = c5 .before .before in
-    let s = c7 .args .s .now in
-    c .xor-block2 .ensures ∙ rw (
+    let s = c .before .before .before .before .before .before .before .before .args .s .now in
+    let w = c .before .before .before .before .before .before .encrypt-with .ensures in
+    ap₂ ciphered (c .xor-block2 .ensures ∙ rw (
       c .before .before .padded .ensures,
       c .before .double-block2 .ensures,
-      c4 .double-block .ensures,
-      c5 .encrypt-with .ensures .standard (search needs),
+      c .before .before .before .before .double-block .ensures,
+      w .standard (search needs),
       ne-eqb (length s) 16 (c .before .before .before .if1 .left),
-    ) refl
+    ) refl) (w .cost)
 
 pub last-block-spec : {M : Type 1} → statement M
 last-block-spec =

@@ -1,6 +1,7 @@
 -- `cmac::mac_of` meets its contract: the even places, as the definition has them.
 use Rattle.cmac.specs.Cmac.{evenPlaces}
 use borrow.Author.Needs.{needs}
+use borrow.Author.Needs.{needs}
 use Rattle.cmac.proofs.mac_of.Statement.{statement}
 use Rattle.cmac.proofs.mac_of.Tie as tie
 
@@ -33,7 +34,7 @@ array-read-t28 c = search needs
 
 returns : tie.Need-returns
 unfolding evenPlaces
-returns c = rw (c .cmac-of .ensures)
+returns c = rw (c .before .cmac-of .ensures)
 
 pub mac-of-spec : {M : Type 1} → statement M
 mac-of-spec =

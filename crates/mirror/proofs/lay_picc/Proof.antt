@@ -1,7 +1,9 @@
-use mathlib.Core.Path.{_≡_, ap₂, sym, _∙_}
+use mathlib.Core.Path.{_≡_, sym, ap, ap₂, _∙_}
 use native.Mathlib.Omega.{arith}
 use lib.ListN.{length}
-use Rattle.mirror.specs.Mirrors.{mirrorAt, withUid, withCounter, withPicc}
+use Rattle.base.specs.Decide.{pick}
+use Rattle.sdm.specs.Tap.{piccCost}
+use Rattle.mirror.specs.Mirrors.{mirrorAt, withUid, withCounter, withPicc, piccMirrorCost, overlaid}
 use Rattle.mirror.proofs.Inside.{uid-inside, counter-inside, picc-inside}
 use Rattle.mirror.proofs.Laying.{mirror-off}
 use borrow.Author.Needs.{needs}
@@ -38,28 +40,36 @@ slice-aggregate-lay-hex-3 c = search needs
 
 lay-hex-requires-3 : tie.Need-lay-hex-requires-3
 lay-hex-requires-3 c κs =
-    let b = c .before .before .before .before .before .before .before .before .before .before .before in
-    let l : length (c .before .picc-data .result) ≡ 16 = search needs in
+    let b = c .before .before .before .before .before .before .before .before .before .before .before .before in
+    let l : length (c .before .before .picc-data .result .bytes) ≡ 16 = search needs in
     λ h. let i = picc-inside (b .args .r) (b .pre) h in omega arith
 
 returns : tie.Need-returns
-unfolding withUid withCounter withPicc
+unfolding withUid withCounter withPicc piccMirrorCost
 returns c =
     let c6 = c .before .before .before .before .before .before in
-    let c8 = c6 .before .before in
-    let c9 = c8 .before in
-    let c12 = c9 .before .before .before in
-    let a = c12 .args in
-    c .lay-hex3 .ensures ∙ ap₂ (mirrorAt (a .r .picc)) (c .before .before .picc-data .ensures)
-    (c6 .lay-hex2 .ensures ∙ ap₂ (mirrorAt (a .r .counter)) (c8 .high-first .ensures) (c9 .lay-hex .ensures))
+    let c7 = c6 .before in
+    let c9 = c7 .before .before in
+    let c10 = c9 .before in
+    let c13 = c10 .before .before .before in
+    let a = c13 .args in
+    let p = c .before .before .before .picc-data .ensures in
+    ap₂ overlaid
+    (c .lay-hex3 .ensures ∙ ap₂ (mirrorAt (a .r .picc)) (ap (λ x. x .bytes) p)
+    (c7 .lay-hex2 .ensures ∙ ap₂ (mirrorAt (a .r .counter)) (c9 .high-first .ensures) (c10 .lay-hex .ensures)))
+    (ap (λ x. x .cost) p ∙ sym (ap (λ t. pick t piccCost 0) (c6 .if1 .taken)))
 
 returns-2 : tie.Need-returns-2
-unfolding withUid withCounter withPicc
+unfolding withUid withCounter withPicc piccMirrorCost
 returns-2 c =
-    let a = c .before .before .before .before .before .before .before .args in
-    c .before .lay-hex2 .ensures
-    ∙ ap₂ (mirrorAt (a .r .counter)) (c .before .before .before .high-first .ensures) (c .before .before .before .before .lay-hex .ensures)
-    ∙ sym (mirror-off (a .r .picc) _ _ (c .if1 .left))
+    let c4 = c .before .before .before .before in
+    let c7 = c4 .before .before .before in
+    let a = c7 .args in
+    ap₂ overlaid
+    (c .before .lay-hex2 .ensures
+    ∙ ap₂ (mirrorAt (a .r .counter)) (c .before .before .before .high-first .ensures) (c4 .lay-hex .ensures)
+    ∙ sym (mirror-off (a .r .picc) _ _ (c .if1 .left)))
+    (sym (ap (λ t. pick t piccCost 0) (c .if1 .left)))
 
 pub lay-picc-spec : {M : Type 1} → statement M
 lay-picc-spec =

@@ -1,9 +1,13 @@
-use mathlib.Core.Path.{_≡_}
+use mathlib.Core.Path.{_≡_, refl, sym, ap, ap₂}
+use Prim.Native.Nat.{_+_}
 use native.Mathlib.Omega.{arith}
 use lib.ListN.{length}
 use Rattle.replies.proofs.Equal.{gives-as}
 use Rattle.replies.proofs.Given.{room-given}
 use Rattle.part_two.specs.PartTwo.{enteredFirst}
+use Rattle.cbc.specs.Cbc.{cbcCost}
+use Rattle.cmac.specs.Cmac.{cmacCost, blocksOf}
+use borrow.Author.Needs.{needs}
 use borrow.Author.Needs.{needs}
 use Rattle.part_two.proofs.enter_first.Statement.{statement}
 use Rattle.part_two.proofs.enter_first.Tie as tie
@@ -24,7 +28,13 @@ talking-requires : tie.Need-talking-requires
 talking-requires c κs = search needs
 
 slice-aggregate-give-text : tie.Need-slice-aggregate-give-text
-slice-aggregate-give-text c = search needs
+slice-aggregate-give-text c = let r = c .before .before .before .before .before .first-reply in let l : length (r .result .bytes) ≡ 32 = search (needs, r .ok) in search needs
+
+add-give-text : tie.Need-add-give-text
+unfolding cbcCost cmacCost blocksOf
+add-give-text c =
+    let c6 = c .before .before .before .before .before .before in
+    omega (arith, c6 .session .ensures .1, ap (λ x. x .cost) (c6 .before .first-reply .ensures))
 
 give-text-requires : tie.Need-give-text-requires
 give-text-requires c κs = search needs
@@ -32,16 +42,19 @@ give-text-requires c κs = search needs
 returns : tie.Need-returns
 unfolding enteredFirst
 returns c =
-    let c6 = c .before .before .before .before .before .before in
-    let r = c .before .before .before .before .before .first-reply in
-    let l : length (r .result) ≡ 32 = search (needs, r .ok) in
+    let r = c .before .before .before .before .before .before .before .before .first-reply in
+    let s = c .before .before .before .before .before .before .before .session in
+    let t = c .before .before .before .before .talking in
+    let l : length (r .result .bytes) ≡ 32 = search (needs, r .ok) in
     rw (
-      ← c6 .ti-of .ensures,
-      ← c .before .before .before .before .session .ensures,
-      ← c .before .before .before .before .before .first-reply .ensures,
-      ← c .before .before .before .no-pending .ensures,
-      ← c .before .before .talking .ensures,
-    ) (gives-as (c .give-text .ensures) (room-given (c .before .before .talking .result) 0x9100 (r .result) (omega arith)))
+      ← c .before .before .before .before .before .before .before .before .before .ti-of .ensures,
+      ← s .ensures .0,
+      ← s .ensures .1,
+      ← ap (λ x. x .bytes) (r .ensures),
+      ← ap (λ x. x .cost) (r .ensures),
+      ← c .before .before .before .before .before .no-pending .ensures,
+      ← t .ensures,
+    ) (gives-as (c .give-text .ensures) (room-given (s .result .cost + r .result .cost) (t .result) 0x9100 (r .result .bytes) (omega arith)))
 
 pub enter-first-spec : {M : Type 1} → statement M
 enter-first-spec =
@@ -53,5 +66,6 @@ enter-first-spec =
     no-pending-requires
     talking-requires
     slice-aggregate-give-text
+    add-give-text
     give-text-requires
     returns)

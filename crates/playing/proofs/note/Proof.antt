@@ -1,7 +1,8 @@
--- `playing::note` meets its contract: the numbers, and zeros behind them.
+-- `playing::note` meets its contract: the numbers, the count low byte first, and zeros behind them.
 use mathlib.Core.Path.{sym, ap, _∙_}
-use mathlib.Core.List.{_∷_}
+use mathlib.Core.List.{_∷_, _++_}
 use lib.ListN.{replicate}
+use Rattle.base.specs.Bytes.{low}
 use Rattle.base.proofs.Bytes.{laid-whole}
 use Rattle.access.specs.declared.Marks.{Marks}
 use Rattle.playing.specs.Answers.{journalOf}
@@ -11,6 +12,12 @@ use Rattle.playing.proofs.note.Tie as tie
 
 marked-requires : tie.Need-marked-requires
 marked-requires c κs = search needs
+
+cast-low : tie.Need-cast-low
+cast-low c = search needs
+
+cast-high : tie.Need-cast-high
+cast-high c = search needs
 
 slice-aggregate-put : tie.Need-slice-aggregate-put
 slice-aggregate-put c = search needs
@@ -22,12 +29,13 @@ same-length : tie.Need-same-length
 same-length c = search needs
 
 returns : tie.Need-returns
-unfolding journalOf
+unfolding journalOf low
 returns c =
     let c5 = c .before .before .before .before .before in
-    c .before .before .put .ensures ∙ laid-whole _ _ (sym (c5 .before .before .pre))
-    ∙ ap (λ (m : Marks). m .how ∷ m .right ∷ replicate 14 0) (c5 .marked .ensures)
+    let b = c5 .before .before in
+    c .before .before .put .ensures ∙ laid-whole _ _ (sym (b .pre))
+    ∙ ap (λ (m : Marks). m .how ∷ m .right ∷ low 2 (b .args .cost) ++ replicate 12 0) (c5 .marked .ensures)
 
 pub note-spec : {M : Type 1} → statement M
 note-spec =
-    tie.close (tie.spec marked-requires slice-aggregate-put put-requires same-length returns)
+    tie.close (tie.spec marked-requires cast-low cast-high slice-aggregate-put put-requires same-length returns)

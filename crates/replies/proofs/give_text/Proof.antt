@@ -1,8 +1,10 @@
+-- `replies::give_text` meets its contract.
 use mathlib.Core.Path.{ap}
 use Prim.Native.Nat.{min}
 use lib.ListN.{length, take}
 use Rattle.replies.proofs.Equal.{gives-as}
-use Rattle.replies.specs.Answer.{given, roomGiven}
+use Rattle.replies.specs.Answer.{givenFor, roomGiven}
+use borrow.Author.Needs.{needs}
 use borrow.Author.Needs.{needs}
 use Rattle.replies.proofs.give_text.Statement.{statement}
 use Rattle.replies.proofs.give_text.Tie as tie
@@ -20,7 +22,7 @@ returns : tie.Need-returns
 unfolding roomGiven
 returns c =
     let a = c .before .before .before .before .before .args in
-    gives-as (c .give .ensures) (ap (λ b. given (a .tag) (a .status) (take (min (length (a .e .now)) 256) b)) (c .before .before .put .ensures))
+    gives-as (c .give .ensures) (ap (λ b. givenFor (a .cost) (a .tag) (a .status) (take (min (length (a .e .now)) 256) b)) (c .before .before .put .ensures))
 
 pub give-text-spec : {M : Type 1} → statement M
 give-text-spec = tie.close (tie.spec slice-aggregate-put put-requires give-requires returns)

@@ -25,12 +25,15 @@ more-requires-6 c κs = search needs
 first-of-requires : tie.Need-first-of-requires
 first-of-requires c κs = search needs
 
+sum-requires : tie.Need-sum-requires
+sum-requires c κs = search needs
+
 returns : tie.Need-returns
 returns c =
-    let c6 = c .before .before .before .before .before .before in
-    counted-is _ _ _ (c6 .more .ensures) (c .before .before .before .before .before .more2 .ensures)
-    (c .before .before .before .before .more3 .ensures) (c .before .before .before .more4 .ensures)
-    (c .before .before .more5 .ensures) (c .before .more6 .ensures) (c .first-of .ensures)
+    let c7 = c .before .before .before .before .before .before .before in
+    counted-is _ _ _ (c7 .more .ensures) (c .before .before .before .before .before .before .more2 .ensures)
+    (c .before .before .before .before .before .more3 .ensures) (c .before .before .before .before .more4 .ensures)
+    (c .before .before .before .more5 .ensures) (c .before .before .more6 .ensures) (c .before .first-of .ensures) (c .sum .ensures)
 
 pub counted-spec : {M : Type 1} → statement M
 counted-spec =
@@ -43,4 +46,5 @@ counted-spec =
     more-requires-5
     more-requires-6
     first-of-requires
+    sum-requires
     returns)

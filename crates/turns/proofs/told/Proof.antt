@@ -14,7 +14,7 @@ differs-requires : tie.Need-differs-requires
 differs-requires c κs = search needs
 
 returns : tie.Need-returns
-returns c = went-is _ _ _ _ _ (c .before .before .status-of .ensures) (c .before .refuses .ensures) (c .differs .ensures)
+returns c = went-is _ _ _ _ _ _ (c .before .before .status-of .ensures) (c .before .refuses .ensures) (c .differs .ensures)
 
 pub told-spec : {M : Type 1} → statement M
 told-spec = tie.close (tie.spec status-of-requires refuses-requires differs-requires returns)

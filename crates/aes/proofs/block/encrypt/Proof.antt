@@ -1,5 +1,7 @@
 -- `aes::block::encrypt` meets its contract: with the table of `sbox`.
+use mathlib.Core.Path.{ap₂}
 use borrow.Author.Needs.{needs}
+use Rattle.aes.specs.Block.{ciphered}
 use Rattle.aes.proofs.block.encrypt.Statement.{statement}
 use Rattle.aes.proofs.block.encrypt.Tie as tie
 
@@ -10,7 +12,7 @@ encrypt-with-requires : tie.Need-encrypt-with-requires
 encrypt-with-requires c κs = search needs
 
 returns : tie.Need-returns
-returns c = c .encrypt-with .ensures .standard (search needs)
+returns c = let e = c .encrypt-with .ensures in ap₂ ciphered (e .standard (search needs)) (e .cost)
 
 pub encrypt-spec : {M : Type 1} → statement M
 encrypt-spec =

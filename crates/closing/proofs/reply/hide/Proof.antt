@@ -1,18 +1,22 @@
 -- `closing::reply::hide` meets its contract: padded, then encrypted in place.
-use Rattle.closing.proofs.Closing.{seals-none, seals-some, hidden-some, reply-under}
-use Rattle.messaging.specs.Protect.{replyIv}
-use Rattle.closing.specs.Reply.{hiddenLength}
-use lib.Seq.{length-take-le}
-use lib.ListN.{length, take}
-use native.Mathlib.Omega.{arith}
+use mathlib.Core.Path.{_≡_, refl, sym, ap, _∙_}
 use Prim.Native.Nat.{_+_, _*_, _/_, _≤_}
-use mathlib.Core.Path.{_≡_, sym, _∙_}
+use native.Mathlib.Omega.{arith}
+use lib.ListN.{length, take}
+use lib.Seq.{length-take-le}
+use Rattle.cbc.specs.Cbc.{cbcCost}
+use Rattle.cbc.proofs.Turns.{chains-cost}
+use Rattle.messaging.specs.Protect.{replyIv, partCost}
+use Rattle.closing.specs.Reply.{hiddenLength}
+use Rattle.closing.proofs.Closing.{seals-none, seals-some, hidden-some, hidden-cost, reply-under}
+use borrow.Author.Needs.{needs}
 use borrow.Author.Needs.{needs}
 use Rattle.closing.proofs.reply.hide.Statement.{statement}
 use Rattle.closing.proofs.reply.hide.Tie as tie
 
 returns : tie.Need-returns
-returns c = let a = c .before .before .args in seals-none (a .s) (replyIv (a .s)) (a .room .now) _ (a .n) (omega arith)
+unfolding partCost
+returns c = let a = c .before .before .args in (seals-none (a .s) (replyIv (a .s)) (a .room .now) _ (a .n) (omega arith), rw (c .if1 .taken) refl)
 
 pad-requires : tie.Need-pad-requires
 pad-requires c κs = search needs
@@ -22,9 +26,8 @@ mul-e c = search needs
 
 add-e : tie.Need-add-e
 add-e c =
-    let c6 = c .before .before .before .before .before .before in
-    let a = c6 .args in
-    let f : hiddenLength (a .n) ≤ length (a .room .now) = c6 .pre in
+    let a = c .before .before .before .before .before .before .args in
+    let f : hiddenLength (a .n) ≤ length (a .room .now) = c .before .before .before .before .before .before .pre in
     omega (arith, hidden-some (a .n) (omega arith))
 
 expand-requires : tie.Need-expand-requires
@@ -35,44 +38,56 @@ reply-vector-requires c κs = search needs
 
 slice-relend-prefix-cbc-encrypt : tie.Need-slice-relend-prefix-cbc-encrypt
 slice-relend-prefix-cbc-encrypt c =
-    let c7 = c .before .before .before .before .before .before .before in
-    let c11 = c7 .before .before .before .before in
-    let a = c11 .args in
-    let f : hiddenLength (a .n) ≤ length (a .room .now) = c11 .pre in
-    let l : length (c7 .pad .last .0) ≡ length (a .room .now) = search needs in
+    let a = c .before .before .before .before .before .before .before .before .before .before .before .before .args in
+    let f : hiddenLength (a .n) ≤ length (a .room .now) = c .before .before .before .before .before .before .before .before .before .before .before .before .pre in
+    let l : length (c .before .before .before .before .before .before .before .before .pad .last .0) ≡ length (a .room .now) = search needs in
     omega (arith, hidden-some (a .n) (omega arith))
 
 slice-aggregate-cbc-encrypt : tie.Need-slice-aggregate-cbc-encrypt
 slice-aggregate-cbc-encrypt c =
-    let c8 = c .before .before .before .before .before .before .before .before in
-    let c12 = c8 .before .before .before .before in
-    let a = c12 .args in
-    let f : hiddenLength (a .n) ≤ length (a .room .now) = c12 .pre in
-    let l : length (c8 .pad .last .0) ≡ length (a .room .now) = search needs in
-    sym (length-take-le (a .n / 16 * 16 + 16) (c8 .pad .last .0) (omega (arith, hidden-some (a .n) (omega arith))))
+    let a = c .before .before .before .before .before .before .before .before .before .before .before .before .before .args in
+    let f : hiddenLength (a .n) ≤ length (a .room .now) = c .before .before .before .before .before .before .before .before .before .before .before .before .before .pre in
+    let l : length (c .before .before .before .before .before .before .before .before .before .pad .last .0) ≡ length (a .room .now) = search needs in
+    sym (length-take-le (a .n / 16 * 16 + 16) (c .before .before .before .before .before .before .before .before .before .pad .last .0) (omega (arith, hidden-some (a .n) (omega arith))))
 
 cbc-encrypt-requires : tie.Need-cbc-encrypt-requires
 cbc-encrypt-requires c κs = search needs
+
+add-t14 : tie.Need-add-t14
+unfolding cbcCost
+add-t14 c =
+    let a = c .before .before .before .before .before .before .before .before .before .before .before .before .before .before .before .before .before .before .args in
+    let e = a .n / 16 * 16 + 16 in
+    let f : hiddenLength (a .n) ≤ length (a .room .now) =
+    c .before .before .before .before .before .before .before .before .before .before .before .before .before .before .before .before .before .before .pre in
+    let l : length (c .before .before .before .before .before .before .before .before .before .before .before .before .before .before .pad .last .0) ≡ length (a .room .now) = search needs in
+    let c6 = c .before .before .before .before .before .before in
+    let c12 = c6 .before .before .before .before .before .before in
+    let k : length (take e (c12 .before .before .pad .last .0)) ≡ e = length-take-le e (c12 .before .before .pad .last .0) (omega (arith, hidden-some (a .n) (omega arith))) in
+    omega (arith, ap (λ x. x .cost) (c6 .before .before .reply-vector .ensures), chains-cost (c .before .before .before .before .cbc-encrypt .ensures) (rw k (omega arith)), k)
 
 same-length : tie.Need-same-length
 same-length c = search needs
 
 returns-2 : tie.Need-returns-2
 returns-2 c =
-    let c11 = c .before .before .before .before .before .before .before .before .before .before .before in
-    let c15 = c11 .before .before .before .before in
-    let a = c15 .args in
+    let a = c .before .before .before .before .before .before .before .before .before .before .before .before .before .before .before .before .before .before .args in
     let e = a .n / 16 * 16 + 16 in
-    let f : hiddenLength (a .n) ≤ length (a .room .now) = c15 .pre in
-    let l : length (c11 .pad .last .0) ≡ length (a .room .now) = search needs in
-    let g : e ≤ length (a .room .now) = omega (arith, hidden-some (a .n) (omega arith)) in
-    let q : length (c .before .before .cbc-encrypt .last .1 .1 .0) ≡ length (take e (c11 .pad .last .0)) = search needs in
-    let c5 = c .before .before .before .before .before in
-    let c7 = c5 .before .before in
-    seals-some (a .s) (c5 .reply-vector .result) (a .room .now) (c11 .pad .last .0) (c .before .before .cbc-encrypt .last .1 .1 .0) (c7 .expand .result)
-    (a .n) _ _ (omega arith) g (c11 .pad .ensures) (c7 .expand .ensures)
-    (c5 .reply-vector .ensures ∙ reply-under (a .s) _ (c7 .expand .ensures)) (c .before .before .cbc-encrypt .ensures)
-    (q ∙ length-take-le e (c11 .pad .last .0) (omega arith))
+    let p = c .before .before .before .before .before .before .before .before .before .before .before .before .before .before .pad in
+    let b = c .before .before .before .before .cbc-encrypt in
+    let x = c .before .before .before .before .before .before .before .before .before .before .expand in
+    let v = c .before .before .before .before .before .before .before .before .reply-vector in
+    let f : hiddenLength (a .n) ≤ length (a .room .now) =
+    c .before .before .before .before .before .before .before .before .before .before .before .before .before .before .before .before .before .before .pre in
+    let l : length (p .last .0) ≡ length (a .room .now) = search needs in
+    let z : 1 ≤ a .n = omega (arith, c .before .before .before .before .before .before .before .before .before .before .before .before .before .before .before .before .if1 .left) in
+    let g : e ≤ length (a .room .now) = omega (arith, f, hidden-some (a .n) z) in
+    let q : length (b .last .1 .1 .0) ≡ length (take e (p .last .0)) = search needs in
+    let k = length-take-le e (p .last .0) (omega (arith, g, l)) in (
+      seals-some (a .s) (v .result .bytes) (a .room .now) (p .last .0) (b .last .1 .1 .0) (x .result) (a .n) _ _ z g (p .ensures) (x .ensures)
+          (ap (λ y. y .bytes) (v .ensures) ∙ reply-under (a .s) _ (x .ensures)) (b .ensures) (q ∙ k),
+      hidden-cost (a .n) _ _ _ z k (ap (λ y. y .cost) (v .ensures)) (chains-cost (b .ensures) (rw k (omega arith))),
+    )
 
 pub hide-spec : {M : Type 1} → statement M
 hide-spec =
@@ -87,5 +102,6 @@ hide-spec =
     slice-relend-prefix-cbc-encrypt
     slice-aggregate-cbc-encrypt
     cbc-encrypt-requires
+    add-t14
     same-length
     returns-2)

@@ -1,12 +1,13 @@
--- `closing::reply::sign` meets its contract: the MAC is a piece behind the rest.
-use Rattle.closing.proofs.Closing.{seals}
-use Rattle.base.proofs.Pieces.{also, fronted}
-use Rattle.messaging.specs.Protect.{messageMac}
-use lib.Seq.{length-take-le, take-all}
-use lib.ListN.{length, take, length-take}
-use native.Mathlib.Omega.{arith}
-use Prim.Native.Nat.{_+_}
+-- `closing::reply::sign` meets its contract: the MAC behind what stands there.
 use mathlib.Core.Path.{_≡_, sym, ap, _∙_}
+use Prim.Native.Nat.{_+_}
+use native.Mathlib.Omega.{arith}
+use lib.ListN.{length, take, length-take}
+use lib.Seq.{length-take-le, take-all}
+use Rattle.base.proofs.Pieces.{also, fronted}
+use Rattle.messaging.specs.Protect.{messageMac, messageMacCost}
+use Rattle.closing.proofs.Closing.{seals}
+use borrow.Author.Needs.{needs}
 use borrow.Author.Needs.{needs}
 use Rattle.closing.proofs.reply.sign.Statement.{statement}
 use Rattle.closing.proofs.reply.sign.Tie as tie
@@ -15,7 +16,7 @@ slice-reshare-prefix-message-mac : tie.Need-slice-reshare-prefix-message-mac
 slice-reshare-prefix-message-mac c = search needs
 
 slice-aggregate-message-mac : tie.Need-slice-aggregate-message-mac
-slice-aggregate-message-mac c = let a = c .before .before .args in sym (length-take-le (a .n) (a .room .now) (omega arith))
+slice-aggregate-message-mac c = let a = c .before .before .args in sym (length-take-le (a .n) (a .room .now) (omega (arith, c .before .before .pre .0)))
 
 message-mac-requires : tie.Need-message-mac-requires
 message-mac-requires c κs = search needs
@@ -26,22 +27,23 @@ slice-aggregate-put c = search needs
 put-requires : tie.Need-put-requires
 put-requires c κs = search needs
 
-add-result : tie.Need-add-result
-add-result c = search needs
+add-t14 : tie.Need-add-t14
+add-t14 c = search needs
 
 same-length : tie.Need-same-length
 same-length c = search needs
 
 returns : tie.Need-returns
 returns c =
-    let c5 = c .before .before .before .before .before in
-    let c8 = c5 .before .before .before in
-    let a = c8 .args in
-    let l : length (c5 .message-mac .result) ≡ 8 = search needs in
-    let m : c5 .message-mac .result ≡ messageMac (a .s) (a .code) (take (a .n) (a .room .now)) =
-    c5 .message-mac .ensures ∙ ap (messageMac (a .s) (a .code)) (take-all 293 (take (a .n) (a .room .now)) (simp length-take (omega arith))) in
-    rw (← m) (seals (also (fronted (a .n) (a .room .now) (omega arith)) (c5 .message-mac .result) (a .n + 8) (omega arith) (omega arith)
-    (c .before .before .put .ensures)))
+    let a = c .before .before .before .before .before .before .before .before .before .args in
+    let m = c .before .before .before .before .before .before .message-mac in
+    let l : length (m .result .bytes) ≡ 8 = search needs in
+    let t = take-all 293 (take (a .n) (a .room .now)) (simp length-take (omega arith)) in
+    let b : m .result .bytes ≡ messageMac (a .s) (a .code) (take (a .n) (a .room .now)) =
+    ap (λ x. x .bytes) (m .ensures) ∙ ap (messageMac (a .s) (a .code)) t in (
+      rw (← b) (seals (also (fronted (a .n) (a .room .now) (omega arith)) (m .result .bytes) (a .n + 8) (omega arith) (omega arith) (c .before .before .put .ensures))),
+      ap (λ x. x .cost) (m .ensures) ∙ ap messageMacCost (ap length t ∙ length-take-le (a .n) (a .room .now) (omega arith)),
+    )
 
 pub sign-spec : {M : Type 1} → statement M
 sign-spec =
@@ -52,6 +54,6 @@ sign-spec =
     message-mac-requires
     slice-aggregate-put
     put-requires
-    add-result
+    add-t14
     same-length
     returns)

@@ -1,5 +1,5 @@
--- `messaging::protect::command_iv` meets its contract: the vector under the session's round keys.
 use Rattle.messaging.specs.Protect.{commandIv}
+use borrow.Author.Needs.{needs}
 use borrow.Author.Needs.{needs}
 use Rattle.messaging.proofs.protect.command_iv.Statement.{statement}
 use Rattle.messaging.proofs.protect.command_iv.Tie as tie

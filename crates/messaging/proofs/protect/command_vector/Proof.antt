@@ -1,5 +1,5 @@
--- `messaging::protect::command_vector` meets its contract: the label of a command's vector.
 use Rattle.messaging.specs.Protect.{commandVector}
+use borrow.Author.Needs.{needs}
 use borrow.Author.Needs.{needs}
 use Rattle.messaging.proofs.protect.command_vector.Statement.{statement}
 use Rattle.messaging.proofs.protect.command_vector.Tie as tie

@@ -1,15 +1,16 @@
 -- `messaging::protect::mac_over` meets its contract: three pieces at the front of the buffer.
-use lib.Seq.{length-take-le}
-use Rattle.cmac.specs.Cmac.{mac}
-use Rattle.base.proofs.Pieces.{also}
-use Rattle.base.proofs.Bytes.{none, front}
-use Rattle.base.specs.Bytes.{low}
-use Rattle.cmac.specs.Cmac.{cmac, evenPlaces}
-use native.Mathlib.Omega.{arith}
-use lib.ListN.{length}
-use mathlib.Core.Path.{_≡_, refl, ap₂, _∙_, sym}
+use mathlib.Core.Path.{_≡_, refl, sym, ap₂, _∙_, ap}
 use mathlib.Core.List.{_∷_}
 use Prim.Native.Nat.{_+_, _≤_}
+use native.Mathlib.Omega.{arith}
+use lib.ListN.{length}
+use lib.Seq.{length-take-le}
+use Rattle.base.specs.Bytes.{low}
+use Rattle.base.proofs.Bytes.{none, front}
+use Rattle.base.proofs.Pieces.{also}
+use Rattle.cmac.specs.Cmac.{mac, cmac, evenPlaces, cmacCost, truncated}
+use Rattle.messaging.specs.Protect.{messageMacCost}
+use borrow.Author.Needs.{needs}
 use borrow.Author.Needs.{needs}
 use Rattle.messaging.proofs.protect.mac_over.Statement.{statement}
 use Rattle.messaging.proofs.protect.mac_over.Tie as tie
@@ -55,29 +56,26 @@ array-share-prefix-b c = search needs
 
 slice-aggregate-mac-of : tie.Need-slice-aggregate-mac-of
 slice-aggregate-mac-of c =
-    let c4 = c .before .before .before .before in
-    let b = c4 .put3 .last .1 .0 in
-    let l : length b ≡ 300 = search needs in
-    let c15 = c4 .before .before .before .before .before .before .before .before .before .before .before in
-    let m : length (c15 .args .body .now) ≤ 293 = c15 .pre in
-    sym (length-take-le _ b (omega arith))
+    let c6 = c .before .before .before .before .before .before in
+    let c12 = c6 .before .before .before .before .before .before in
+    let e = 7 + length (c12 .before .before .before .args .body .now) in sym (length-take-le e _ (omega (arith, c12 .before .before .before .pre)))
 
 mac-of-requires : tie.Need-mac-of-requires
 mac-of-requires c κs = search needs
 
 returns : tie.Need-returns
-unfolding mac low
+unfolding mac low messageMacCost
 returns c =
-    let c16 = c .before .before .before .before .before .before .before .before .before .before .before .before .before .before .before .before in
-    let a = c16 .args in
+    let a = c .before .before .before .before .before .before .before .before .before .before .before .before .before .before .before .before .args in
     let l : length (a .t4) ≡ 4 = search needs in
-    let c5 = c .before .before .before .before .before in
-    let c8 = c5 .before .before .before in
-    let c12 = c8 .before .before .before .before in
-    let m : length (a .body .now) ≤ 293 = c16 .pre in
-    c .mac-of .ensures ∙ ap₂ (λ w t. evenPlaces (cmac w t)) (c .before .before .before .expand .ensures)
-    (front (also (also (also (none _) (a .first ∷ low 2 (a .counter)) 3 (omega arith) (omega arith) (c12 .put .ensures)) (a .t4) 7 (omega arith) (omega arith)
-    (c8 .put2 .ensures)) (a .body .now) (7 + length (a .body .now)) refl (omega arith) (c5 .put3 .ensures)))
+    let c6 = c .before .before .before .before .before .before in
+    let c12 = c6 .before .before .before .before .before .before in
+    let m : length (a .body .now) ≤ 293 = c12 .before .before .before .before .pre in
+    let n = length (a .body .now) in
+    let b = c .before .before .before .before .before .put3 in
+    let e = front (also (also (also (none _) (a .first ∷ low 2 (a .counter)) 3 (omega arith) (omega arith) (c12 .put .ensures)) (a .t4) 7 (omega arith) (omega arith)
+    (c6 .before .before .put2 .ensures)) (a .body .now) (7 + n) refl (omega arith) (b .ensures)) in
+    c .mac-of .ensures ∙ ap₂ truncated (ap₂ (λ w t. evenPlaces (cmac w t)) (c .before .before .before .expand .ensures) e) (ap cmacCost (length-take-le (7 + n) _ (omega arith)))
 
 pub mac-over-spec : {M : Type 1} → statement M
 mac-over-spec =

@@ -1,5 +1,5 @@
--- `messaging::protect::reply_vector` meets its contract: the label of a reply's vector.
 use Rattle.messaging.specs.Protect.{replyVector}
+use borrow.Author.Needs.{needs}
 use borrow.Author.Needs.{needs}
 use Rattle.messaging.proofs.protect.reply_vector.Statement.{statement}
 use Rattle.messaging.proofs.protect.reply_vector.Tie as tie

@@ -1,10 +1,11 @@
--- `messaging::protect::vector` meets its contract: sixteen bytes, as the definition has them.
-use mathlib.Core.List.{_∷_, _++_}
-use Rattle.base.proofs.Pieces.{tab-of}
-use Rattle.aes.specs.Block.{cipher}
+-- `messaging::protect::vector` meets its contract: the array is the definition's block.
 use mathlib.Core.Path.{_≡_, _∙_, ap}
-use Rattle.base.specs.Bytes.{low}
+use mathlib.Core.List.{_∷_, _++_}
 use lib.ListN.{length, replicate}
+use Rattle.base.specs.Bytes.{low}
+use Rattle.base.proofs.Pieces.{tab-of}
+use Rattle.aes.specs.Block.{cipher, ciphered, blockCost}
+use borrow.Author.Needs.{needs}
 use borrow.Author.Needs.{needs}
 use Rattle.messaging.proofs.protect.vector.Statement.{statement}
 use Rattle.messaging.proofs.protect.vector.Tie as tie
@@ -32,8 +33,10 @@ encrypt-requires c κs = search needs
 
 returns : tie.Need-returns
 unfolding low
-returns c = let a = c .before .args in let l : length (a .t4) ≡ 4 = search needs in
-    c .encrypt .ensures ∙ ap (λ t. cipher (a .w .now) (a .l ∷ a .m ∷ t ++ low 2 (a .counter) ++ replicate 8 0)) (tab-of 4 (a .t4) l)
+returns c =
+    let a = c .before .args in
+    let l : length (a .t4) ≡ 4 = search needs in
+    c .encrypt .ensures ∙ ap (λ t. ciphered (cipher (a .w .now) (a .l ∷ a .m ∷ t ++ low 2 (a .counter) ++ replicate 8 0)) blockCost) (tab-of 4 (a .t4) l)
 
 pub vector-spec : {M : Type 1} → statement M
 vector-spec =

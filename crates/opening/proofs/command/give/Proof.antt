@@ -1,10 +1,11 @@
 -- `opening::command::give` meets its contract: what is laid at the front of the room.
-use lib.ListN.{length}
-use Rattle.base.proofs.Pieces.{also}
-use Rattle.base.proofs.Bytes.{none}
-use native.Mathlib.Omega.{arith}
-use Prim.Native.Nat.{_≤_}
 use mathlib.Core.Path.{refl}
+use Prim.Native.Nat.{_≤_}
+use native.Mathlib.Omega.{arith}
+use lib.ListN.{length}
+use Rattle.base.proofs.Bytes.{none}
+use Rattle.base.proofs.Pieces.{also}
+use borrow.Author.Needs.{needs}
 use borrow.Author.Needs.{needs}
 use Rattle.opening.proofs.command.give.Statement.{statement}
 use Rattle.opening.proofs.command.give.Tie as tie
@@ -17,10 +18,10 @@ same-length c = search needs
 
 returns : tie.Need-returns
 returns c =
-    let c6 = c .before .before .before .before .before .before in
-    let a = c6 .args in
-    let f : length (a .part .now) ≤ length (a .room .now) = c6 .pre in
-    record { answer = refl; room = also (none _) (a .part .now) (length (a .part .now)) (omega arith) (omega arith) (c .before .before .put .ensures) .is }
+    let a = c .before .before .before .before .before .before .args in
+    let f : length (a .part .now) ≤ length (a .room .now) = c .before .before .before .before .before .before .pre in
+    let h = also (none _) (a .part .now) (length (a .part .now)) (omega arith) (omega arith) (c .before .before .put .ensures) in
+    record { answer = refl; room = h .is; cost = refl }
 
 pub give-spec : {M : Type 1} → statement M
 give-spec = tie.close (tie.spec put-requires same-length returns)

@@ -1,11 +1,12 @@
 -- `opening::command::give_text` meets its contract: what unpadding says, given.
-use Rattle.padding.proofs.Unpadding.{unpad-below}
-use Rattle.opening.specs.Command.{OpensInto}
-use Rattle.messaging.specs.Protect.{textOf}
-use lib.Seq.{length-take-le}
-use lib.ListN.{length-take}
+use mathlib.Core.Path.{refl, sym, ap, _∙_}
 use native.Mathlib.Omega.{arith}
-use mathlib.Core.Path.{refl, sym, ap, subst, _∙_}
+use lib.ListN.{length-take}
+use lib.Seq.{length-take-le}
+use Rattle.padding.proofs.Unpadding.{unpad-below}
+use Rattle.messaging.specs.Protect.{textOf}
+use Rattle.opening.proofs.Opening.{into-as}
+use borrow.Author.Needs.{needs}
 use borrow.Author.Needs.{needs}
 use Rattle.opening.proofs.command.give_text.Statement.{statement}
 use Rattle.opening.proofs.command.give_text.Tie as tie
@@ -18,11 +19,9 @@ enum-known-n c = search needs
 
 slice-aggregate-give : tie.Need-slice-aggregate-give
 slice-aggregate-give c =
-    let c4 = c .before .before .before .before in
-    let c7 = c4 .before .before .before in
-    let s = c7 .args .s .now in
+    let s = c .before .before .before .before .before .before .before .args .s .now in
     let n = c .before .before .n .given .0 .0 in
-    sym (length-take-le n s (omega (arith, unpad-below s n (sym (c4 .unpad .ensures .0) ∙ c .before .before .n .given .1))))
+    sym (length-take-le n s (omega (arith, unpad-below s n (sym (c .before .before .before .before .unpad .ensures .0) ∙ c .before .before .n .given .1))))
 
 give-requires : tie.Need-give-requires
 give-requires c κs = simp length-take (omega arith)
@@ -36,14 +35,10 @@ same-length c = search needs
 returns : tie.Need-returns
 returns c =
     let c6 = c .before .before .before .before .before .before in
-    let c8 = c6 .before .before in
-    let c11 = c8 .before .before .before in
-    let a = c11 .args in
-    subst (λ o. OpensInto o (a .room .now) (c .before .before .give .result) (c .before .before .give .last .1 .0))
-    (sym (ap (textOf (a .s .now)) (sym (c8 .unpad .ensures .0) ∙ c6 .n .given .1))) (c .before .before .give .ensures)
+    into-as (c .before .before .give .ensures) (sym (ap (textOf (c6 .before .before .before .before .before .args .s .now)) (sym (c6 .before .before .unpad .ensures .0) ∙ c6 .n .given .1))) refl
 
 returns-2 : tie.Need-returns-2
-returns-2 c = rw (sym (c .before .before .unpad .ensures .0) ∙ c .enum-told .given .1) (record { answer = refl; room = refl })
+returns-2 c = rw (sym (c .before .before .unpad .ensures .0) ∙ c .enum-told .given .1) (record { answer = refl; room = refl; cost = refl })
 
 pub give-text-spec : {M : Type 1} → statement M
 give-text-spec =

@@ -1,11 +1,12 @@
 -- `opening::command::mac_right` meets its contract: the end of the command against its MAC.
-use Rattle.base.specs.Bytes.{same}
-use Rattle.messaging.specs.Protect.{messageMac}
-use lib.Seq.{length-take-le, take-all}
-use lib.ListN.{length, take, drop, length-take, length-drop}
-use native.Mathlib.Omega.{arith}
-use Prim.Native.Nat.{_-_}
 use mathlib.Core.Path.{ap, ap₂, sym, _∙_}
+use Prim.Native.Nat.{_-_}
+use native.Mathlib.Omega.{arith}
+use lib.ListN.{length, take, drop, length-take, length-drop}
+use lib.Seq.{length-take-le, take-all}
+use Rattle.base.specs.Bytes.{same}
+use Rattle.messaging.specs.Protect.{messageMac, messageMacCost}
+use borrow.Author.Needs.{needs}
 use borrow.Author.Needs.{needs}
 use Rattle.opening.proofs.command.mac_right.Statement.{statement}
 use Rattle.opening.proofs.command.mac_right.Tie as tie
@@ -36,11 +37,14 @@ alike-requires c κs = search needs
 
 returns : tie.Need-returns
 returns c =
-    let c6 = c .before .before .before .before .before .before in
-    let x = c6 .args .x .now in
-    c .alike .ensures ∙ ap₂ same (take-all (length x - (length x - 8)) (drop (length x - 8) x) (simp length-drop (omega arith)))
-    (c .before .before .before .message-mac .ensures
-    ∙ ap (messageMac (c6 .args .s) (c6 .args .cmd)) (take-all 293 (take (length x - 8) x) (simp length-take (omega arith))))
+    let a = c .before .before .before .before .before .before .before .args in
+    let x = a .x .now in
+    let m = c .before .before .before .before .message-mac .ensures in
+    let t = take-all 293 (take (length x - 8) x) (simp length-take (omega arith)) in (
+      c .alike .ensures ∙ ap₂ same (take-all (length x - (length x - 8)) (drop (length x - 8) x) (simp length-drop (omega arith)))
+          (ap (λ y. y .bytes) m ∙ ap (messageMac (a .s) (a .cmd)) t),
+      ap (λ y. y .cost) m ∙ ap messageMacCost (ap length t ∙ length-take-le (length x - 8) x (omega arith)),
+    )
 
 pub mac-right-spec : {M : Type 1} → statement M
 mac-right-spec =

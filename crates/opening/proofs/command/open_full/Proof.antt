@@ -1,16 +1,18 @@
 -- `opening::command::open_full` meets its contract: the MAC, then the part.
-use lib.Seq.{length-take-le}
-use Rattle.opening.proofs.Opening.{checked-full, full-wrong, full-blocks, content-none}
-use Rattle.base.proofs.Pieces.{part-of}
-use Rattle.messaging.specs.declared.Mode.the-variants.{Full}
-use Rattle.padding.specs.Padding.{blocks}
-use Rattle.opening.specs.Command.{OpensInto, checked}
-use Rattle.messaging.specs.Protect.{plain, content, commandIv}
+use mathlib.Core.Path.{_≡_, refl, sym, ap, ap₂, _∙_}
 use mathlib.Core.Bool.{true, false}
-use lib.ListN.{length, length-drop, take, drop}
+use Prim.Native.Nat.{_+_, _-_}
 use native.Mathlib.Omega.{arith}
-use Prim.Native.Nat.{_-_}
-use mathlib.Core.Path.{_≡_, refl, sym, ap, subst, _∙_}
+use lib.ListN.{length, length-drop, take, drop}
+use lib.Seq.{length-take-le}
+use Rattle.base.proofs.Pieces.{part-of}
+use Rattle.padding.specs.Padding.{blocks}
+use Rattle.messaging.specs.declared.Mode.the-variants.{Full}
+use Rattle.messaging.specs.Protect.{plain, content, commandIv, partCost}
+use Rattle.messaging.proofs.Costs.{mac-few, part-few}
+use Rattle.opening.specs.Command.{checked, checkedCost}
+use Rattle.opening.proofs.Opening.{checked-full, full-wrong, full-blocks, content-none, cost-full, cost-full-wrong, cost-none, into-as}
+use borrow.Author.Needs.{needs}
 use borrow.Author.Needs.{needs}
 use Rattle.opening.proofs.command.open_full.Statement.{statement}
 use Rattle.opening.proofs.command.open_full.Tie as tie
@@ -31,24 +33,42 @@ part-give-hidden-end : tie.Need-part-give-hidden-end
 part-give-hidden-end c = search needs
 
 give-hidden-requires : tie.Need-give-hidden-requires
-give-hidden-requires c κs = let a = c .before .before .before .before .before .before .before .args in let n = length (a .x .now) - 8 - a .h in
+give-hidden-requires c κs =
+    let a = c .before .before .before .before .before .before .before .args in
+    let n = length (a .x .now) - 8 - a .h in
     let l : length (take n (drop (a .h) (a .x .now))) ≡ n = length-take-le n (drop (a .h) (a .x .now)) (simp length-drop (omega arith)) in
     (omega arith, omega arith, ap blocks l ∙ full-blocks n (rw (c .before .before .if2 .taken) at (c .before .before .before .before .before .before .before .pre .1)))
+
+add-t15 : tie.Need-add-t15
+add-t15 c =
+    let a = c .before .before .before .before .before .before .before .before .before .before .before .before .args in
+    let n = length (a .x .now) - 8 - a .h in
+    let l : length (take n (drop (a .h) (a .x .now))) ≡ n = length-take-le n (drop (a .h) (a .x .now)) (simp length-drop (omega arith)) in
+    omega (
+      arith,
+      c .before .before .before .before .before .before .before .before .before .mac-right .ensures .1,
+      mac-few (length (a .x .now) - 8),
+      c .before .before .before .before .give-hidden .ensures .cost,
+      part-few Full true (length (take n (drop (a .h) (a .x .now)))),
+    )
 
 same-length : tie.Need-same-length
 same-length c = search needs
 
 returns : tie.Need-returns
 returns c =
-    let c5 = c .before .before .before .before .before in
-    let c6 = c5 .before in
-    let c7 = c6 .before in
-    let c10 = c7 .before .before .before in
-    let a = c10 .args in
-    subst (λ o. OpensInto o (a .room .now) (c .before .before .give-hidden .result) (c .before .before .give-hidden .last .1 .1 .0))
-    (ap (content Full (a .s) (commandIv (a .s)) true) (part-of (a .h) (length (a .x .now) - 8) (a .x .now) (omega arith))
-    ∙ sym (checked-full (a .s) (a .cmd) (a .x .now) (a .h) true (sym (c7 .mac-right .ensures) ∙ c6 .if1 .taken))
-    ∙ ap (checked Full (a .s) (a .cmd) (a .x .now) (a .h)) (sym (c5 .if2 .taken))) (c .before .before .give-hidden .ensures)
+    let a = c .before .before .before .before .before .before .before .before .before .before .before .before .args in
+    let x = a .x .now in
+    let m = c .before .before .before .before .before .before .before .before .before .mac-right .ensures in
+    let e = sym (m .0) ∙ c .before .before .before .before .before .before .before .before .if1 .taken in
+    let t = sym (c .before .before .before .before .before .before .before .if2 .taken) in
+    let g = c .before .before .before .before .give-hidden .ensures in
+    let n = length x - 8 - a .h in
+    let l : length (take n (drop (a .h) x)) ≡ n = length-take-le n (drop (a .h) x) (simp length-drop (omega arith)) in
+    into-as (record { answer = g .answer; room = g .room; cost = refl })
+    (ap (content Full (a .s) (commandIv (a .s)) true) (part-of (a .h) (length x - 8) x (omega arith))
+    ∙ sym (checked-full (a .s) (a .cmd) x (a .h) true e) ∙ ap (checked Full (a .s) (a .cmd) x (a .h)) t)
+    (ap₂ (λ i j. i + j) (m .1) (g .cost ∙ ap (partCost Full true) l) ∙ cost-full (a .s) (a .cmd) x (a .h) true e ∙ ap (checkedCost Full (a .s) (a .cmd) x (a .h)) t)
 
 sub-give : tie.Need-sub-give
 sub-give c = search needs
@@ -67,21 +87,22 @@ same-length-2 c = search needs
 
 returns-2 : tie.Need-returns-2
 returns-2 c =
-    let c5 = c .before .before .before .before .before in
-    let c6 = c5 .before in
-    let c7 = c6 .before in
-    let c10 = c7 .before .before .before in
-    let a = c10 .args in
-    subst (λ o. OpensInto o (a .room .now) (c .before .before .give .result) (c .before .before .give .last .1 .0))
-    (ap plain (part-of (a .h) (length (a .x .now) - 8) (a .x .now) (omega arith)) ∙ sym (content-none (a .s) (commandIv (a .s)) _)
-    ∙ sym (checked-full (a .s) (a .cmd) (a .x .now) (a .h) false (sym (c7 .mac-right .ensures) ∙ c6 .if1 .taken))
-    ∙ ap (checked Full (a .s) (a .cmd) (a .x .now) (a .h)) (sym (c5 .if2 .left))) (c .before .before .give .ensures)
+    let a = c .before .before .before .before .before .before .before .before .before .before .args in
+    let x = a .x .now in
+    let m = c .before .before .before .before .before .before .before .mac-right .ensures in
+    let e = sym (m .0) ∙ c .before .before .before .before .before .before .if1 .taken in
+    let t = sym (c .before .before .before .before .before .if2 .left) in
+    into-as (c .before .before .give .ensures) (ap plain (part-of (a .h) (length x - 8) x (omega arith)) ∙ sym (content-none (a .s) (commandIv (a .s)) _)
+    ∙ sym (checked-full (a .s) (a .cmd) x (a .h) false e) ∙ ap (checked Full (a .s) (a .cmd) x (a .h)) t)
+    (m .1 ∙ cost-none (a .s) (a .cmd) x (a .h) e ∙ ap (checkedCost Full (a .s) (a .cmd) x (a .h)) t)
 
 returns-3 : tie.Need-returns-3
 returns-3 c =
-    let c4 = c .before .before .before .before in
-    let a = c4 .args in
-    rw (full-wrong (a .s) (a .cmd) (a .x .now) (a .h) (a .there) (sym (c .before .mac-right .ensures) ∙ c .if1 .left)) (record { answer = refl; room = refl })
+    let a = c .before .before .before .before .args in
+    let m = c .before .mac-right .ensures in
+    let e = sym (m .0) ∙ c .if1 .left in
+    into-as (record { answer = refl; room = refl; cost = refl }) (sym (full-wrong (a .s) (a .cmd) (a .x .now) (a .h) (a .there) e))
+    (m .1 ∙ cost-full-wrong (a .s) (a .cmd) (a .x .now) (a .h) (a .there) e)
 
 pub open-full-spec : {M : Type 1} → statement M
 open-full-spec =
@@ -93,6 +114,7 @@ open-full-spec =
     part-give-hidden-start
     part-give-hidden-end
     give-hidden-requires
+    add-t15
     same-length
     returns
     sub-give

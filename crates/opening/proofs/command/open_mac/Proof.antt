@@ -1,12 +1,13 @@
 -- `opening::command::open_mac` meets its contract: the MAC, then the part.
-use Rattle.opening.proofs.Opening.{checked-mac, mac-wrong}
-use Rattle.base.proofs.Pieces.{part-of}
-use Rattle.opening.specs.Command.{OpensInto}
-use Rattle.messaging.specs.Protect.{plain}
-use lib.ListN.{length}
-use native.Mathlib.Omega.{arith}
+use mathlib.Core.Path.{refl, sym, ap, _∙_}
+use mathlib.Core.Bool.{true, false}
 use Prim.Native.Nat.{_-_}
-use mathlib.Core.Path.{refl, sym, ap, subst, _∙_}
+use native.Mathlib.Omega.{arith}
+use lib.ListN.{length}
+use Rattle.base.proofs.Pieces.{part-of}
+use Rattle.messaging.specs.Protect.{plain}
+use Rattle.opening.proofs.Opening.{checked-mac, mac-wrong, cost-mac, into-as}
+use borrow.Author.Needs.{needs}
 use borrow.Author.Needs.{needs}
 use Rattle.opening.proofs.command.open_mac.Statement.{statement}
 use Rattle.opening.proofs.command.open_mac.Tie as tie
@@ -34,19 +35,19 @@ same-length c = search needs
 
 returns : tie.Need-returns
 returns c =
-    let c5 = c .before .before .before .before .before in
-    let c6 = c5 .before in
-    let c9 = c6 .before .before .before in
-    let a = c9 .args in
-    subst (λ o. OpensInto o (a .room .now) (c .before .before .give .result) (c .before .before .give .last .1 .0))
-    (ap plain (part-of (a .h) (length (a .x .now) - 8) (a .x .now) (omega arith))
-    ∙ sym (checked-mac (a .s) (a .cmd) (a .x .now) (a .h) _ (sym (c6 .mac-right .ensures) ∙ c5 .if1 .taken))) (c .before .before .give .ensures)
+    let a = c .before .before .before .before .before .before .before .before .before .args in
+    let m = c .before .before .before .before .before .before .mac-right .ensures in
+    let e = sym (m .0) ∙ c .before .before .before .before .before .if1 .taken in
+    into-as (c .before .before .give .ensures) (ap plain (part-of (a .h) (length (a .x .now) - 8) (a .x .now) (omega arith))
+    ∙ sym (checked-mac (a .s) (a .cmd) (a .x .now) (a .h) _ e)) (m .1 ∙ cost-mac (a .s) (a .cmd) (a .x .now) (a .h) _ true e)
 
 returns-2 : tie.Need-returns-2
 returns-2 c =
-    let c4 = c .before .before .before .before in
-    let a = c4 .args in
-    rw (mac-wrong (a .s) (a .cmd) (a .x .now) (a .h) _ (sym (c .before .mac-right .ensures) ∙ c .if1 .left)) (record { answer = refl; room = refl })
+    let a = c .before .before .before .before .args in
+    let m = c .before .mac-right .ensures in
+    let e = sym (m .0) ∙ c .if1 .left in
+    into-as (record { answer = refl; room = refl; cost = refl }) (sym (mac-wrong (a .s) (a .cmd) (a .x .now) (a .h) _ e))
+    (m .1 ∙ cost-mac (a .s) (a .cmd) (a .x .now) (a .h) _ false e)
 
 pub open-mac-spec : {M : Type 1} → statement M
 open-mac-spec =

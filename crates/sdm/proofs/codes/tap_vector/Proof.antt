@@ -1,9 +1,9 @@
 -- `sdm::codes::tap_vector` meets its contract: sixteen bytes, as the definition has them.
-use Rattle.base.proofs.Pieces.{tab-of}
-use Rattle.aes.specs.Block.{cipher}
-use lib.ListN.{length, replicate}
-use mathlib.Core.List.{_++_}
 use mathlib.Core.Path.{_≡_, ap, _∙_}
+use mathlib.Core.List.{_++_}
+use lib.ListN.{length, replicate}
+use Rattle.base.proofs.Pieces.{tab-of}
+use Rattle.aes.specs.Block.{cipher, ciphered, blockCost}
 use borrow.Author.Needs.{needs}
 use Rattle.sdm.proofs.codes.tap_vector.Statement.{statement}
 use Rattle.sdm.proofs.codes.tap_vector.Tie as tie
@@ -24,8 +24,10 @@ encrypt-requires : tie.Need-encrypt-requires
 encrypt-requires c κs = search needs
 
 returns : tie.Need-returns
-returns c = let l : length (c .before .three .result) ≡ 3 = search needs in
-    c .encrypt .ensures ∙ ap (λ t. cipher (c .before .before .args .w .now) (t ++ replicate 13 0)) (tab-of 3 (c .before .three .result) l ∙ c .before .three .ensures)
+returns c =
+    let l : length (c .before .three .result) ≡ 3 = search needs in
+    c .encrypt .ensures
+    ∙ ap (λ t. ciphered (cipher (c .before .before .args .w .now) (t ++ replicate 13 0)) blockCost) (tab-of 3 (c .before .three .result) l ∙ c .before .three .ensures)
 
 pub tap-vector-spec : {M : Type 1} → statement M
 tap-vector-spec =

@@ -24,9 +24,10 @@ give-requires c κs = search needs
 
 returns : tie.Need-returns
 returns c =
-    let a = c .before .before .before .before .before .before .args in
-    let x = c .before .before .before .before .before .tap-text in
-    let l : length (x .result) ≡ 256 = search needs in
+    let a = c .before .before .before .before .before .before .before .args in
+    let x = c .before .before .before .before .before .before .tap-text in
+    let o = x .ok in
+    let l : length (x .result .file) ≡ 256 = search needs in
     subst (λ y. Gives y (c .give .result))
     (part-given-of (a .tag) (a .r) (a .iso) (a .at) (a .count) (c .before .accepting .result) (x .result) (c .before .before .before .cut .result)
     (c .before .accepting .ensures) (x .ensures) l (c .before .before .before .cut .ensures))

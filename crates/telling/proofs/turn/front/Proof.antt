@@ -30,7 +30,7 @@ same-length-2 c = search needs
 returns-2 : tie.Need-returns-2
 returns-2 c =
     let args = c .before .before .before .before .before .before .before .before .before .args in
-    lays-as (c .before .before .played2 .ensures) (ap (λ x. playedText (args .number) x (args .reply .now) (args .why) (args .e .now) (args .unmet)) (sym
+    lays-as (c .before .before .played2 .ensures) (ap (λ x. playedText (args .number) x (args .reply .now) (args .why) (args .blocks) (args .e .now) (args .unmet)) (sym
     (take-all (args .n) (args .c .now) (c .before .before .before .before .if1 .left))))
 
 pub front-spec : {M : Type 1} → statement M

@@ -13,6 +13,9 @@ exchange-requires c κs = search needs
 access-line-requires : tie.Need-access-line-requires
 access-line-requires c κs = search needs
 
+blocks-line-requires : tie.Need-blocks-line-requires
+blocks-line-requires c κs = search needs
+
 unlike-requires : tie.Need-unlike-requires
 unlike-requires c κs = search needs
 
@@ -22,8 +25,9 @@ same-length c = search needs
 returns : tie.Need-returns
 unfolding playedText
 returns c =
-    let b = c .before .before .before .before .before .before .before in
-    let m = lays-more (b .before .before .before .before .exchange .ensures) (b .access-line .ensures) in
+    let l = c .before .before .before .before .before .before .before in
+    let a = l .before .before .before .before in
+    let m = lays-more (lays-more (a .before .before .before .before .exchange .ensures) (a .access-line .ensures)) (l .blocks-line .ensures) in
     rw (c .before .before .before .before .if1 .taken) (lays-more m (c .before .before .unlike .ensures))
 
 same-length-2 : tie.Need-same-length-2
@@ -32,9 +36,12 @@ same-length-2 c = search needs
 returns-2 : tie.Need-returns-2
 unfolding playedText
 returns-2 c =
-    rw (c .if1 .left) (lays-as (lays-more (c .before .before .before .before .before .before .before .exchange .ensures) (c .before .before .before .access-line .ensures)) (sym (append-nil _)))
+    let l = c .before .before .before in
+    let a = l .before .before .before .before in
+    let m = lays-more (lays-more (a .before .before .before .before .exchange .ensures) (a .access-line .ensures)) (l .blocks-line .ensures) in
+    rw (c .if1 .left) (lays-as m (sym (append-nil _)))
 
 pub played-spec : {M : Type 1} → statement M
 played-spec =
     tie.close
-    (tie.spec exchange-requires access-line-requires unlike-requires same-length returns same-length-2 returns-2)
+    (tie.spec exchange-requires access-line-requires blocks-line-requires unlike-requires same-length returns same-length-2 returns-2)

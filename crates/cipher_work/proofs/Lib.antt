@@ -1,0 +1,4 @@
+pub mod AnyCall
+pub mod Formula
+pub mod Work
+pub mod Samples

@@ -1,0 +1,2 @@
+pub mod CipherWork
+pub mod Samples
