@@ -57,7 +57,7 @@ onOpening t k r d random wrongLength = refusal t (openedStatus WrongLength)
 onOpening t k r d random wrongMac = refusal t (openedStatus WrongMac)
 onOpening t k r d random wrongPadding = refusal t (openedStatus WrongPadding)
 
--- no message has over 255 bytes; what opening it costs comes to what its answer costs
+-- no message has over 255 bytes; what opening it costs is added to what its answer costs
 unfoldable pub wrapped : Tag → Command → Reading → Decision → List ℕ → List ℕ → Answer
 wrapped t k r d x random =
     pick (ltb 255 (length x)) (refusal t lengthError)
