@@ -154,7 +154,8 @@ returns-5 c =
     let k = h .result .cost + t .result .cost in
     let f : closedLength (a .m) (a .n) ≤ length (a .room .now) = omega (arith, c12 .before .before .closed-length .ensures, c12 .before .if2 .left) in
     let l : length d ≡ a .n = length-take-le (a .n) (a .room .now) (omega (arith, closed-long (a .m) (a .n))) in
-    rw (c .closed-for5 .ensures) (closes (a .s) (a .m) (a .code) (a .n) (a .room .now) r k new (sym (c12 .before .before .before .before .too-long .ensures) ∙ c12 .before .before .before .if1 .left) f
+    rw (c .closed-for5 .ensures) (closes (a .s) (a .m) (a .code) (a .n) (a .room .now) r k new
+    (sym (c12 .before .before .before .before .too-long .ensures) ∙ c12 .before .before .before .if1 .left) f
     (subst (λ m. Seals (closed (a .s) m (a .code) d) (closedLength m (a .n)) (a .room .now) r new) e
     (rw (closed-full (a .s) (a .code) (a .n) d l)
     (seals-signed (messageMac (a .s) (a .code)) p (a .room .now) (h .last .1 .0) new (hiddenLength (a .n)) (h .result .length) r (h .ensures .0) (t .ensures .0))))
