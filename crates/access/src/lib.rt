@@ -1,5 +1,6 @@
 // Access and mode: what the rights of a file and the session grant a command (8.2.3), decided once for both classes; and what a journal
 // notes of it.
+#![tactic(auto)]
 
 mod granting;
 mod marking;

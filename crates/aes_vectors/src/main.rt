@@ -1,6 +1,8 @@
 // Runs AES-128 vectors of standard input, one a line, '-' for nothing: KEYS NAME KEY ROUND-KEYS, ECB NAME KEY PLAIN CIPHER,
 // CBC NAME KEY IV PLAIN CIPHER, CMAC NAME KEY MESSAGE TAG, and CMACBAD NAME KEY MESSAGE TAG, whose tag must not match.
 // Prints each that differs, by its name and with ours, and then the totals. The vectors at the end are wrong on purpose.
+#![tactic(auto)]
+
 mod line_words;
 mod run;
 

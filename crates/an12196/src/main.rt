@@ -1,5 +1,7 @@
 // The worked values that NXP publishes in AN12196, computed by `messaging` and compared; then values that are wrong on purpose, one of
 // each kind, so that a program that compares nothing is found out. Prints each value that differs, and the totals.
+#![tactic(auto)]
+
 mod file_settings;
 mod key_changes;
 mod mutual;

@@ -1,4 +1,6 @@
 // What a program's arguments ask for, and the name of the new file beside one.
+#![tactic(auto)]
+
 ghost use Rattle.std.specs.Prelude.{◌≡◌};
 ghost use Rattle.arguments.specs.Arguments.{Asks, beside_length, beside_room};
 

@@ -1,4 +1,6 @@
 // Authentication (9.1.5, 9.1.6, 10.4): part one of 71 and of 77.
+#![tactic(auto)]
+
 ghost use Rattle.std.specs.Prelude.{◌≡◌, ◌≤◌, length, take};
 ghost use Rattle.replies.specs.Answer.{Gives};
 ghost use Rattle.auth.specs.Parts.{values_status, first_status, next_status, begun, cap_of, part_one_first, part_one_next};

@@ -1,4 +1,6 @@
 // The two parts of an authentication (9.1.5, 9.1.6, 10.4.1, 10.4.2).
+#![tactic(auto)]
+
 ghost use Rattle.std.specs.Prelude.{◌≡◌, length};
 ghost use Rattle.authentication.specs.Authentication.{enciphered, deciphered, turned, part_two, first_reply, next_reply, part_one_cost, first_reply_cost, next_reply_cost, paired};
 ghost use Rattle.aes.specs.Block.{ciphered};

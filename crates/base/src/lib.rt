@@ -1,4 +1,6 @@
 // What every floor uses: total reads, bytes laid into a lent room, two slices compared, numbers low byte first.
+#![tactic(auto)]
+
 ghost use Rattle.std.specs.Prelude.{◌≡◌};
 ghost use Rattle.base.specs.Bytes.{byte_at, same, laid, number, low};
 

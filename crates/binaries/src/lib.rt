@@ -1,4 +1,6 @@
 // ISOReadBinary and ISOUpdateBinary (10.9.2, 10.9.3).
+#![tactic(auto)]
+
 ghost use Rattle.std.specs.Prelude.{◌≡◌, eqb};
 ghost use Rattle.base.specs.Decide.{pick};
 ghost use Rattle.spans.specs.Spans.{SpansFit};

@@ -1,4 +1,6 @@
 // Cipher block chaining over a lent buffer, in place (SP 800-38A, section 6.2).
+#![tactic(auto)]
+
 ghost use Rattle.std.specs.Prelude.{◌≡◌};
 ghost use Rattle.cbc.specs.Cbc.{block_at, Chains, cbc_out, cbc_back};
 

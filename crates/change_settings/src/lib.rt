@@ -1,4 +1,6 @@
 // ChangeFileSettings (10.7.1).
+#![tactic(auto)]
+
 ghost use Rattle.std.specs.Prelude.{◌≡◌, not};
 ghost use Rattle.base.specs.Decide.{pick, and};
 ghost use Rattle.replies.specs.Answer.{Gives};

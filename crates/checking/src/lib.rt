@@ -1,4 +1,6 @@
 // A settings string's verdict, and its normal form, by numbers.
+#![tactic(auto)]
+
 ghost use Rattle.std.specs.Prelude.{◌≡◌};
 ghost use Rattle.settings.specs.Answers.{judged, verdict_word};
 ghost use Rattle.normalising.specs.Answers.{normalised, normal_room, normal_number};

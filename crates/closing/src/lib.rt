@@ -1,4 +1,6 @@
 // Replies closed in the lent room (9.1.8 to 9.1.10), over the promises of `messaging`, `aes` and `padding`.
+#![tactic(auto)]
+
 mod reply;
 
 pub use reply::{close, too_long};

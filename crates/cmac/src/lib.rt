@@ -1,4 +1,6 @@
 // CMAC (SP 800-38B, section 6), and the eight bytes of it that 01 keeps.
+#![tactic(auto)]
+
 ghost use Rattle.std.specs.Prelude.{◌≡◌, ◌∷◌, ◌++◌, ◌+◌, ◌-◌, ◌≤◌, ◌<◌, length, drop, replicate};
 ghost use Rattle.sbox.specs.Words.{mixing_table};
 ghost use Rattle.cmac.specs.Cmac.{shifted, doubled, last_block, cmac, even_places, cmac_cost, truncated};

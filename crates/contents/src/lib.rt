@@ -1,4 +1,6 @@
 // Step 9 of ReadData and WriteData (10.8).
+#![tactic(auto)]
+
 ghost use Rattle.std.specs.Prelude.{◌≡◌, ◌+◌, ltb};
 ghost use Rattle.spans.specs.Spans.{SpansFit};
 ghost use Rattle.replies.specs.Answer.{Gives};

@@ -1,4 +1,6 @@
 // The CRC of a changed key (10.6.1).
+#![tactic(auto)]
+
 ghost use Rattle.std.specs.Prelude.{◌≡◌};
 ghost use Rattle.std.specs.Int.Bits.{bit_xor};
 ghost use Rattle.crc.specs.Crc.{crc_bit, crc_bits, crc};

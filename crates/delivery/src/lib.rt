@@ -1,4 +1,5 @@
 // A fresh tag from a UID: what a tag is delivered with, and refusal 4.
+#![tactic(auto)]
 
 mod delivery;
 

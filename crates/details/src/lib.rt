@@ -1,4 +1,6 @@
 // GetCardUID, GetFileSettings and GetFileCounters (10.5.3, 10.7).
+#![tactic(auto)]
+
 ghost use Rattle.std.specs.Prelude.{◌≡◌, min, ◌≤◌, length};
 ghost use Rattle.base.specs.Bytes.{low};
 ghost use Rattle.replies.specs.Answer.{Gives};

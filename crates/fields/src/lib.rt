@@ -1,4 +1,5 @@
 // The fields of a settings string (Tables 69 and 73), whether it is good or not.
+#![tactic(auto)]
 
 mod fields;
 mod front;

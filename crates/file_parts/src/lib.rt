@@ -1,4 +1,5 @@
 // Parts of the files: what a read of stored bytes gives, and the files with other bytes.
+#![tactic(auto)]
 
 mod filing;
 

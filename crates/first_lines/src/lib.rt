@@ -1,5 +1,7 @@
 // A plan's first line that is not blank, where a plan begins: behind a byte order mark, the tag's UID. And what a line says: '#' starts a
 // comment, and the other characters count as capitals, blanks aside.
+#![tactic(auto)]
+
 ghost use Rattle.std.specs.Prelude.{◌≡◌};
 ghost use Rattle.first_lines.specs.Said.{said, good_bytes, bytes_room};
 

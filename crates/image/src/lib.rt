@@ -1,4 +1,6 @@
 // A tag's state as an image of 684 bytes, a version byte first (docs/IMAGE.md): what crosses the C border. `storing` writes it, `restoring` reads it.
+#![tactic(auto)]
+
 ghost use Rattle.std.specs.Prelude.{◌≡◌};
 ghost use Rattle.image.specs.Image.{image_length};
 

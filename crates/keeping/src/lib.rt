@@ -1,4 +1,6 @@
 // What is kept of a tag between runs: what a file's bytes give a run to start from.
+#![tactic(auto)]
+
 ghost use Rattle.std.specs.Prelude.{◌≡◌};
 ghost use Rattle.keeping.specs.Keep.{fresh_start, Starts, earlier, start_by, Keeps};
 

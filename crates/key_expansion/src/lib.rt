@@ -1,4 +1,6 @@
 // The key expansion (FIPS 197, section 5.2), a round key at a time, as four words.
+#![tactic(auto)]
+
 ghost use Rattle.std.specs.Prelude.{◌≡◌};
 ghost use Rattle.sbox.specs.Field.{xtime};
 ghost use Rattle.sbox.specs.Tables.{sbox};

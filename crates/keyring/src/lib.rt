@@ -1,4 +1,6 @@
 // ChangeKey and GetKeyVersion (10.6).
+#![tactic(auto)]
+
 ghost use Rattle.std.specs.Prelude.{◌≡◌, eqb};
 ghost use Rattle.std.specs.Int.Bits.{bit_xor};
 ghost use Rattle.base.specs.Decide.{pick};

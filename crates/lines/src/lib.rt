@@ -1,4 +1,6 @@
 // Lines, words and capital hexadecimal, for the programs that run vectors.
+#![tactic(auto)]
+
 ghost use Rattle.std.specs.Prelude.{◌≡◌, ◌*◌, ◌/◌, ◌%◌, leb, length};
 ghost use Rattle.base.specs.Decide.{pick};
 ghost use Rattle.lines.specs.Lines.{seek};

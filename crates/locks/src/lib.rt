@@ -1,4 +1,6 @@
 // Whether a file is locked, and the line that a rehearsal prints of it at its end.
+#![tactic(auto)]
+
 ghost use Rattle.std.specs.Prelude.{◌≡◌};
 ghost use Rattle.forms.specs.Rooms.{Lays};
 ghost use Rattle.locks.specs.Locks.{locked, lock_of};

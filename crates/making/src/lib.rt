@@ -1,4 +1,6 @@
 // A fresh tag in an image of 684 bytes, by numbers.
+#![tactic(auto)]
+
 ghost use Rattle.making.specs.Making.{Makes};
 
 use delivery::Made;

@@ -1,4 +1,6 @@
 // Secure messaging (9.1) over the promises of `aes`: what `opening` and `closing` share, the vectors and the MAC of a message.
+#![tactic(auto)]
+
 mod protect;
 
 pub use protect::{command_iv, command_vector, message_mac, reply_iv, reply_vector};

@@ -1,4 +1,6 @@
 // The mirrors of a tap (9.3): laid over file 2, never stored.
+#![tactic(auto)]
+
 ghost use Rattle.std.specs.Prelude.{true, ◌≡◌, ◌+◌, ◌-◌, ◌*◌, ◌/◌, ◌%◌, ◌≤◌, length};
 ghost use Rattle.cbc.specs.Cbc.{cbc_out};
 ghost use Rattle.key_expansion.specs.Keys.{key_expansion};

@@ -1,4 +1,6 @@
 // Settings strings normalised.
+#![tactic(auto)]
+
 ghost use Rattle.std.specs.Prelude.{◌≡◌, eqb, leb, ltb, set};
 ghost use Rattle.base.specs.Decide.{pick, or};
 ghost use Rattle.base.specs.Bytes.{same};

@@ -1,4 +1,6 @@
 // Commands opened (9.1.8 to 9.1.10), over the promises of `messaging`, `aes` and `padding`.
+#![tactic(auto)]
+
 mod command;
 
 pub use command::open;

@@ -1,5 +1,6 @@
 // The fourteen commands, and the order of their checks, steps 1 to 5 (01): a command's bytes become a value, once, or the
 // status that refuses them.
+#![tactic(auto)]
 
 mod fronts;
 mod iso;

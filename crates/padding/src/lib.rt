@@ -1,4 +1,6 @@
 // Padding method 2 of ISO/IEC 9797-1, both ways (9.1.4).
+#![tactic(auto)]
+
 ghost use Rattle.std.specs.Prelude.{◌≡◌};
 ghost use Rattle.base.specs.Decide.{pick};
 ghost use Rattle.padding.specs.Padding.{unpad, unpadded_status, is_padded, Pads};

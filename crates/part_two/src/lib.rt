@@ -1,4 +1,6 @@
 // Authentication (9.1.5, 9.1.6, 10.4): part two of 71 and of 77.
+#![tactic(auto)]
+
 ghost use Rattle.std.specs.Prelude.{◌≡◌, drop};
 ghost use Rattle.replies.specs.Answer.{Gives};
 ghost use Rattle.part_two.specs.PartTwo.{session_from, entered_first, entered_next, entered, by_proof, part_two_answer};

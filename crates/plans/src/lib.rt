@@ -1,5 +1,7 @@
 // What a line of a plan means, or why it is bad. A plan's lines are commands in hexadecimal; '#' starts a comment, '/' the
 // command's random bytes, and '=' what its reply must be.
+#![tactic(auto)]
+
 ghost use Rattle.plans.specs.Numbers.{Means};
 
 mod parts;

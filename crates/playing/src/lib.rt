@@ -1,4 +1,6 @@
 // What the tag in an image of 684 bytes answers to a command, by numbers.
+#![tactic(auto)]
+
 ghost use Rattle.std.specs.Prelude.{◌≡◌, length};
 ghost use Rattle.playing.specs.Answers.{journal_of, Answers, Plays};
 

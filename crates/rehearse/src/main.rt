@@ -1,6 +1,8 @@
 // Rehearses a plan: on standard input stands the tag's UID, then a command a line in hexadecimal; '#' starts a comment, '/' the
 // command's 20 random bytes, and '=' what its reply must be. Prints each exchange, what the tag is then, and last how it went. With
 // --image FILE the tag is the one whose image FILE holds, and FILE holds its image then; where there is no FILE, it is made.
+#![tactic(auto)]
+
 ghost use Rattle.std.specs.Prelude.{◌≤◌};
 
 use arguments::Asked;

@@ -1,4 +1,6 @@
 // What a command is answered: a status, data and the next state. Refusals and accepted commands.
+#![tactic(auto)]
+
 ghost use Rattle.std.specs.Prelude.{◌≡◌, min, take};
 ghost use Rattle.replies.specs.Answer.{Gives, refusal, given_for, room_given, accepted, raised, afterwards};
 

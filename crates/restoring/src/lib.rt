@@ -1,4 +1,6 @@
 // From an image to the state that it holds.
+#![tactic(auto)]
+
 ghost use Rattle.std.specs.Prelude.{◌≡◌, eqb};
 ghost use Rattle.base.specs.Decide.{pick, and};
 ghost use Rattle.base.specs.Bytes.{byte_at};

@@ -1,4 +1,6 @@
 // The rules for a settings string in 01's order: the first that does not hold answers. The same rules of a record.
+#![tactic(auto)]
+
 ghost use Rattle.std.specs.Prelude.{◌≡◌};
 ghost use Rattle.fields.specs.Fields.{head_of, read_of};
 ghost use Rattle.spans.specs.Spans.{reading_of};

@@ -1,6 +1,8 @@
 // FIPS 197's two substitution tables (figures 7 and 14), each a constant array of 256 numbers. That they are what the
 // standard's rule gives is shown over the whole of each table (proofs/Rule.antt). And two tables of words for the columns of
 // 5.1.3 and 5.3.3, whose definition is their rule.
+#![tactic(auto)]
+
 ghost use Rattle.std.specs.Prelude.{◌≡◌};
 ghost use Rattle.sbox.specs.Tables.{sbox, inv_sbox};
 ghost use Rattle.sbox.specs.Words.{mixing_table, unmixing_table};

@@ -1,4 +1,6 @@
 // Secure Dynamic Messaging (9.3): PICCData, and the keys, the vector and the codes of a tap, over the promises of `aes`.
+#![tactic(auto)]
+
 mod codes;
 
 pub use codes::{picc_data, tap_enc_key, tap_encrypt, tap_iv, tap_mac, tap_mac_key};

@@ -1,4 +1,6 @@
 // ISOSelectFile (10.9.1).
+#![tactic(auto)]
+
 ghost use Rattle.std.specs.Prelude.{◌≡◌, eqb};
 ghost use Rattle.base.specs.Decide.{or};
 ghost use Rattle.replies.specs.Answer.{Gives};

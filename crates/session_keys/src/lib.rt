@@ -1,4 +1,6 @@
 // The session keys (9.1.7).
+#![tactic(auto)]
+
 ghost use Rattle.std.specs.Prelude.{◌≡◌, ◌∷◌};
 ghost use Rattle.session_keys.specs.Keys.{context, session_keys};
 

@@ -1,4 +1,6 @@
 // Settings strings (Tables 69 and 73) judged, and good ones read, without any cryptography.
+#![tactic(auto)]
+
 ghost use Rattle.std.specs.Prelude.{◌≡◌};
 ghost use Rattle.settings.specs.declared.Verdict.TheVariants.{WrongFile};
 ghost use Rattle.settings.specs.Filing.{by_fault, file_fault_word, file_judged, filed_word, file_status};

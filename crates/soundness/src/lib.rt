@@ -1,4 +1,5 @@
 // Whether a state is sound, 01's refusal 3, and what the settings of its three files mean.
+#![tactic(auto)]
 
 mod judging;
 

@@ -1,4 +1,6 @@
 // The spans of the mirrors, and what a settings string means with them, whether it is good or not.
+#![tactic(auto)]
+
 ghost use Rattle.std.specs.Prelude.{◌≡◌, ◌<◌, ◌^◌};
 ghost use Rattle.base.specs.Decide.{pick};
 ghost use Rattle.fields.specs.Fields.{read_of};

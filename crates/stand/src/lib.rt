@@ -1,4 +1,6 @@
 // The C border: numbers and byte slices alone, the state as an image of 684 bytes. include/mainspur.h declares it.
+#![tactic(auto)]
+
 ghost use Rattle.std.specs.Prelude.{◌≡◌};
 ghost use Rattle.settings.specs.Answers.{judged, verdict_word};
 ghost use Rattle.normalising.specs.Answers.{normalised, normal_room, normal_number};

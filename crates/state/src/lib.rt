@@ -1,5 +1,6 @@
 // The state of a tag, by value, without enums: every state can be written down, and `soundness` judges it. With it its parts
 // and what ends.
+#![tactic(auto)]
 
 mod parts;
 

@@ -1,4 +1,6 @@
 // From a state to its image.
+#![tactic(auto)]
+
 ghost use Rattle.std.specs.Prelude.{◌≡◌};
 ghost use Rattle.base.specs.Decide.{pick};
 ghost use Rattle.image.specs.Answers.{stored_number, right_length, stored_in, image_in};

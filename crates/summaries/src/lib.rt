@@ -1,4 +1,6 @@
 // What a tag is, as text at the front of a lent room: what a rehearsal prints at its end.
+#![tactic(auto)]
+
 ghost use Rattle.std.specs.Prelude.{[]};
 ghost use Rattle.base.specs.Decide.{pick};
 ghost use Rattle.forms.specs.Rooms.{Lays};

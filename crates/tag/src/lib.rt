@@ -1,4 +1,6 @@
 // The tag: a fresh one, and the answer to every command in every state.
+#![tactic(auto)]
+
 mod answering;
 mod entry;
 

@@ -1,6 +1,8 @@
 // Plays a log of standard input from a fresh tag: the UID on line one, then command, reply and random bytes, a line each,
 // in capital hexadecimal. Prints a line for each exchange whose reply is another, and last the totals. A line that can't be
 // read is named; its exchange is not played, and counts as differing.
+#![tactic(auto)]
+
 mod exchange;
 mod log;
 mod report;

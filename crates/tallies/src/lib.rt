@@ -1,4 +1,6 @@
 // What a line of a plan did, and how many lines did each.
+#![tactic(auto)]
+
 ghost use Rattle.std.specs.Prelude.{◌≡◌};
 ghost use Rattle.tallies.specs.Counts.{sum_by, more_by, first_by, counted_by, no_tally};
 

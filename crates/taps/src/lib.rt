@@ -1,4 +1,5 @@
 // Taps (9.3): where one starts and goes on, what it shows, and what it gives.
+#![tactic(auto)]
 
 mod taps;
 

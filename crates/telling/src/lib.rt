@@ -1,4 +1,6 @@
 // What a rehearsal prints of a line of its plan, as text at the front of a lent room.
+#![tactic(auto)]
+
 mod decision;
 mod exchanges;
 mod names;

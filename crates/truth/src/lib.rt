@@ -1,4 +1,6 @@
 // Truth values without a branch, so that a rule is one expression.
+#![tactic(auto)]
+
 ghost use Rattle.std.specs.Prelude.{◌≡◌, not};
 ghost use Rattle.base.specs.Decide.{and, or};
 

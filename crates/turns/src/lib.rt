@@ -1,4 +1,6 @@
 // A line of a plan: what it does to the tag, and what is printed of it.
+#![tactic(auto)]
+
 ghost use Rattle.std.specs.Prelude.{◌≡◌, ◌≤◌, take};
 ghost use Rattle.turns.specs.Steps.{went_by, stays};
 ghost use Rattle.turns.specs.Acts.{why_with, played_as, silent, drawn_by, acted_by};

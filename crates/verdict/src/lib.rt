@@ -1,4 +1,6 @@
 // What is said of a reply: its status, whether that refuses, and whether the reply is other than a plan expected.
+#![tactic(auto)]
+
 ghost use Rattle.std.specs.Prelude.{◌≡◌};
 ghost use Rattle.verdict.specs.Replies.{status_in, refusing, differing};
 

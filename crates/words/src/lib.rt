@@ -1,4 +1,6 @@
 // A block as four words, one for each column: how the floors above compute it (FIPS 197, 3.5).
+#![tactic(auto)]
+
 ghost use Rattle.std.specs.Prelude.{◌≡◌, ◌<◌};
 ghost use Rattle.sbox.specs.Words.{packed};
 ghost use Rattle.words.specs.Words.{rows, block_of, words_of, turn, column_of, picked_of};

@@ -1,4 +1,6 @@
 // Wrapped commands (CLA 90): 01's steps 8 and 9.
+#![tactic(auto)]
+
 ghost use Rattle.std.specs.Prelude.{◌≡◌, ◌≤◌, length, take};
 ghost use Rattle.spans.specs.Spans.{SpansFit};
 ghost use Rattle.opening.specs.Command.{opened_status};

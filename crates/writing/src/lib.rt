@@ -1,4 +1,6 @@
 // Records written as settings strings.
+#![tactic(auto)]
+
 ghost use Rattle.std.specs.Prelude.{◌≡◌};
 ghost use Rattle.rules.specs.Rules.{meets};
 ghost use Rattle.writing.specs.Answers.{record_as, record_room, written_as, written_room, written_number, writing_number};
