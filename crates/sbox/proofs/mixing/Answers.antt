@@ -1,5 +1,4 @@
 -- `sbox::mixing` meets its contract: the constant is what the rule gives, computed over the whole table. One walk along the
--- S-box, with twice each entry computed once.
 use mathlib.Core.Path.{◌≡◌, refl, sym, ap, ap₂, ◌∙◌}
 use mathlib.Core.List.{List, [], ◌∷◌}
 use Prim.Native.Nat.{ℕ}
@@ -10,9 +9,10 @@ use Rattle.sbox.specs.Field.{◌⊕◌, xtime}
 use Rattle.sbox.specs.Tables.{sbox}
 use Rattle.sbox.specs.Words.{packed, mixes, mixing_table}
 use Rattle.sbox.proofs.Linear.{times_2, times_3}
-use Rattle.sbox.proofs.mixing.Statement.{statement}
-use Rattle.sbox.proofs.mixing.Tie as tie
+use Rattle.sbox.proofs.mixing.Goals as goal
 
+-- `sbox::mixing` meets its contract: the constant is what the rule gives, computed over the whole table. One walk along the
+-- S-box, with twice each entry computed once.
 abbrev by_2 : ℕ → ℕ → ℕ
 by_2 y two = packed two y y (two ⊕ y)
 
@@ -31,9 +31,6 @@ entries : words sbox ≡ mixing_table
 unfolding mixing_table sbox
 entries = words_are sbox ∙ tab_ext 256 (λ x. by_2 (byte_at sbox x) (xtime (byte_at sbox x))) mixes mixes_is
 
-returns : tie.Need-returns
+pub returns : goal.returns
 unfolding xtime sbox
 returns c = refl ∙ entries
-
-pub mixing_spec : {M : Type 1} → statement M
-mixing_spec = tie.close (tie.spec returns)

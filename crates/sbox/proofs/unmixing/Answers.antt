@@ -1,14 +1,14 @@
 -- `sbox::unmixing` meets its contract: the constant is what the rule gives, computed over the whole table. Twice, four and
--- eight times a byte are computed once for all four products.
 use mathlib.Core.Path.{◌≡◌, refl, ◌∙◌}
 use Prim.Native.Nat.{ℕ}
 use Rattle.base.proofs.Bytes.{tab_ext}
 use Rattle.sbox.specs.Field.{◌⊕◌, xtime}
 use Rattle.sbox.specs.Words.{packed, unmixes, unmixing_table}
 use Rattle.sbox.proofs.Linear.{times_9, times_11, times_13, times_14}
-use Rattle.sbox.proofs.unmixing.Statement.{statement}
-use Rattle.sbox.proofs.unmixing.Tie as tie
+use Rattle.sbox.proofs.unmixing.Goals as goal
 
+-- `sbox::unmixing` meets its contract: the constant is what the rule gives, computed over the whole table. Twice, four and
+-- eight times a byte are computed once for all four products.
 abbrev by_8 : ℕ → ℕ → ℕ → ℕ → ℕ
 by_8 x two four eight = packed (eight ⊕ four ⊕ two) (eight ⊕ x) (eight ⊕ four ⊕ x) (eight ⊕ two ⊕ x)
 
@@ -24,9 +24,6 @@ doublings x = by_2 x (xtime x)
 doublings_is : (x : ℕ) → doublings x ≡ unmixes x
 doublings_is x = rw (times_9 x, times_11 x, times_13 x, times_14 x) refl
 
-returns : tie.Need-returns
+pub returns : goal.returns
 unfolding xtime unmixing_table
 returns c = refl ∙ tab_ext 256 doublings unmixes doublings_is
-
-pub unmixing_spec : {M : Type 1} → statement M
-unmixing_spec = tie.close (tie.spec returns)
