@@ -1,0 +1,72 @@
+-- `lines::decode` meets its contract.
+use Prim.Native.Nat.{◌/◌}
+use mathlib.Core.Path.{◌≡◌, refl, sym, ap₂, ◌∙◌}
+use mathlib.Core.List.{◌++◌}
+use native.Mathlib.Omega.{arith}
+use borrow.Author.Tests.{le-leb, lt-leb}
+use lib.ListN.{length, take, drop, length-take}
+use lib.Seq.{length-take-le}
+use Rattle.lines.specs.Hex.{decoded, decoded_room}
+use Rattle.lines.proofs.Steps.{bytes_half, hex_even}
+use Rattle.lines.proofs.decode.Goals as goal
+
+pub slice_bounds-fill-end-then-n-room : goal.slice_bounds-fill-end-then-n-room
+slice_bounds-fill-end-then-n-room c = simp length-take (omega arith)
+
+pub fill-requires : goal.fill-requires
+fill-requires c =
+    let e = hex_even c.args.text.now (sym c.is_hex.ensures ∙ c.if-is_hex.true) in
+    let l : length (take (length c.args.text.now / 2) c.args.room.now) ≡ (length c.args.text.now / 2) =
+    length-take-le (length c.args.text.now / 2) c.args.room.now c.if-n-room.true in
+    omega arith
+
+pub returns-then-n-room : goal.returns-then-n-room
+unfolding decoded decoded_room
+returns-then-n-room c = record {
+  answer = (let hex = sym c.is_hex.ensures ∙ c.if-is_hex.true in (
+    rw (hex, le-leb _ _ c.if-n-room.true) refl,
+    (
+      rw (hex, le-leb _ _ c.if-n-room.true)
+          (ap₂ (λ b k. b ++ drop k c.args.room.now) c.fill.ensures (sym (bytes_half c.args.text.now hex))),
+      rw (hex, le-leb _ _ c.if-n-room.true) refl,
+    ),
+  )).0;
+  left = (let hex = sym c.is_hex.ensures ∙ c.if-is_hex.true in (
+    rw (hex, le-leb _ _ c.if-n-room.true) refl,
+    (
+      rw (hex, le-leb _ _ c.if-n-room.true)
+          (ap₂ (λ b k. b ++ drop k c.args.room.now) c.fill.ensures (sym (bytes_half c.args.text.now hex))),
+      rw (hex, le-leb _ _ c.if-n-room.true) refl,
+    ),
+  )).1;
+  number = (let hex = sym c.is_hex.ensures ∙ c.if-is_hex.true in (
+    rw (hex, le-leb _ _ c.if-n-room.true) refl,
+    (
+      rw (hex, le-leb _ _ c.if-n-room.true)
+          (ap₂ (λ b k. b ++ drop k c.args.room.now) c.fill.ensures (sym (bytes_half c.args.text.now hex))),
+      rw (hex, le-leb _ _ c.if-n-room.true) refl,
+    ),
+  )).2;
+}
+
+pub returns-then-is_hex : goal.returns-then-is_hex
+unfolding decoded decoded_room
+returns-then-is_hex c = record {
+  answer = (let hex = sym c.is_hex.ensures ∙ c.if-is_hex.true in
+      (rw (hex, lt-leb _ _ c.if-n-room.false) refl, (rw (hex, lt-leb _ _ c.if-n-room.false) refl, rw (hex, lt-leb _ _ c.if-n-room.false) refl))).0;
+  left = (let hex = sym c.is_hex.ensures ∙ c.if-is_hex.true in
+      (rw (hex, lt-leb _ _ c.if-n-room.false) refl, (rw (hex, lt-leb _ _ c.if-n-room.false) refl, rw (hex, lt-leb _ _ c.if-n-room.false) refl))).1;
+  number = (let hex = sym c.is_hex.ensures ∙ c.if-is_hex.true in
+      (rw (hex, lt-leb _ _ c.if-n-room.false) refl, (rw (hex, lt-leb _ _ c.if-n-room.false) refl, rw (hex, lt-leb _ _ c.if-n-room.false) refl))).2;
+}
+
+pub returns : goal.returns
+unfolding decoded decoded_room
+returns c = record {
+  answer = (let none = sym c.is_hex.ensures ∙ c.if-is_hex.false in
+      (rw none refl, (rw none refl, rw none refl))).0;
+  left = (let none = sym c.is_hex.ensures ∙ c.if-is_hex.false in
+      (rw none refl, (rw none refl, rw none refl))).1;
+  number = (let none = sym c.is_hex.ensures ∙ c.if-is_hex.false in
+      (rw none refl, (rw none refl, rw none refl))).2;
+}
