@@ -10,7 +10,7 @@ pub use marking::marked;
 use messaging::Mode;
 
 // The rights of a file, in Table 9's order.
-#[derive(Drop)]
+#[derive(Clone, Copy)]
 pub enum Right {
     Read,
     Write,
@@ -23,7 +23,7 @@ pub enum Right {
 
 // How a command is granted (8.2.3), or not: by a key under a right, by the tap rule under SDMFileRead, by E under a right, without any of
 // these rights; or every condition concerned is F, or not.
-#[derive(Drop)]
+#[derive(Clone, Copy)]
 pub enum Grant {
     ByKey(Right),
     ByTap,
@@ -34,7 +34,7 @@ pub enum Grant {
 }
 
 // How a command is granted, the mode that goes with it, and whether it is a tap: a read without a session with SDM on.
-#[derive(Drop)]
+#[derive(Clone, Copy)]
 pub struct Decision {
     pub grant: Grant,
     pub mode: Mode,
@@ -42,14 +42,14 @@ pub struct Decision {
 }
 
 // What a journal notes of a call: that it never got to the decision, or what that answered.
-#[derive(Drop)]
+#[derive(Clone, Copy)]
 pub enum Noted {
     Unreached,
     Decided(Grant),
 }
 
 // The same by number: how, and under which right.
-#[derive(Drop)]
+#[derive(Clone, Copy)]
 pub struct Marks {
     pub how: u8,
     pub right: u8,

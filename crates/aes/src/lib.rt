@@ -7,7 +7,7 @@ mod block;
 pub use block::{decrypt, decrypt_with, encrypt, encrypt_with, xor_block};
 
 // 16 bytes, and how many blocks were computed for them.
-#[derive(Drop)]
+#[derive(Clone, Copy)]
 pub struct Ciphered {
     pub bytes: [u8; 16],
     pub cost: usize,

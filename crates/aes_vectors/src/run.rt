@@ -61,7 +61,7 @@ fn blocks(w: &[[u8; 16]; 11], back: bool, buf: &mut [u8]) {
 }
 
 // How a buffer goes through the cipher: chained from a vector or every block by itself, and back or not.
-#[derive(Drop)]
+#[derive(Clone, Copy)]
 struct Way {
     chained: bool,
     back: bool,

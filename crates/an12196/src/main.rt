@@ -19,7 +19,7 @@ use opening::Opened;
 use sdm::Tap;
 
 // How many values were compared, and how many differ.
-#[derive(Drop)]
+#[derive(Clone, Copy)]
 struct Tally {
     values: u64,
     differ: u64,

@@ -5,7 +5,7 @@ ghost use Rattle.std.specs.Prelude.{◌≡◌};
 ghost use Rattle.arguments.specs.Arguments.{Asks, beside_length, beside_room};
 
 // What the arguments ask for: nothing, a kept tag, or neither. An unknown one is known by its number.
-#[derive(Drop)]
+#[derive(Clone, Copy)]
 pub enum Asked {
     Plain,
     Image,

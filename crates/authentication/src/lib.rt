@@ -9,7 +9,7 @@ ghost use Rattle.cbc.specs.Cbc.{cbc_cost};
 use aes::Ciphered;
 
 // What the check of part two came to.
-#[derive(Drop)]
+#[derive(Clone, Copy)]
 pub enum Proof {
     Right,
     // 917E.
@@ -19,7 +19,7 @@ pub enum Proof {
 }
 
 // That, RndA where it is right, and how many blocks were computed.
-#[derive(Drop)]
+#[derive(Clone, Copy)]
 pub struct PartTwo {
     pub proof: Proof,
     pub a: [u8; 16],
@@ -27,7 +27,7 @@ pub struct PartTwo {
 }
 
 // Two blocks, and how many were computed for them.
-#[derive(Drop)]
+#[derive(Clone, Copy)]
 pub struct Pair {
     pub bytes: [u8; 32],
     pub cost: usize,

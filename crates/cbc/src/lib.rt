@@ -7,14 +7,14 @@ ghost use Rattle.cbc.specs.Cbc.{block_at, Chains, cbc_out, cbc_back};
 use aes::{decrypt_with, encrypt_with, xor_block};
 
 // What chaining over a lent buffer came to, and how many blocks were computed.
-#[derive(Drop)]
+#[derive(Clone, Copy)]
 pub struct Chain {
     pub chained: Chained,
     pub cost: usize,
 }
 
 // What it came to.
-#[derive(Drop)]
+#[derive(Clone, Copy)]
 pub enum Chained {
     // Every block was done.
     Done,

@@ -6,14 +6,14 @@ mod reply;
 pub use reply::{close, too_long};
 
 // What closing a reply came to, and how many blocks were computed.
-#[derive(Drop)]
+#[derive(Clone, Copy)]
 pub struct ClosedFor {
     pub closed: Closed,
     pub cost: usize,
 }
 
 // What it came to.
-#[derive(Drop)]
+#[derive(Clone, Copy)]
 pub enum Closed {
     // The reply stands at the front of the room, this many bytes.
     Reply(usize),

@@ -36,7 +36,7 @@ pub fn too_long(m: Mode, n: usize) -> bool
 }
 
 // How many bytes stand at the front of a room, and how many blocks were computed for them.
-#[derive(Drop)]
+#[derive(Clone, Copy)]
 struct Sealed {
     length: usize,
     cost: usize,

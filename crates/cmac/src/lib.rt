@@ -10,7 +10,7 @@ use aes::{Ciphered, encrypt_with, xor_block};
 use cbc::load;
 
 // The 8 bytes that are kept of a CMAC, and how many blocks were computed for them.
-#[derive(Drop)]
+#[derive(Clone, Copy)]
 pub struct Truncated {
     pub bytes: [u8; 8],
     pub cost: usize,

@@ -7,14 +7,14 @@ pub use delivery::fresh;
 use state::Tag;
 
 // Refusal 4, or none.
-#[derive(Drop)]
+#[derive(Clone, Copy)]
 pub enum Made {
     Fresh,
     WrongUid,
 }
 
 // A fresh tag, or refusal 4 with zeros beside it.
-#[derive(Drop)]
+#[derive(Clone, Copy)]
 pub struct Birth {
     pub made: Made,
     pub tag: Tag,

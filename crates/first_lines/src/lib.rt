@@ -12,7 +12,7 @@ pub use heading::first_line;
 pub use parts::{bytes_given, tidy};
 
 // The first line of a plan that is not blank: its first character, its end and its number.
-#[derive(Drop)]
+#[derive(Clone, Copy)]
 pub struct FirstLine {
     pub start: usize,
     pub end: usize,

@@ -7,7 +7,7 @@ ghost use Rattle.image.specs.Image.{image_length};
 use state::Tag;
 
 // What the bytes hold: the image of a state, or why they are none.
-#[derive(Drop)]
+#[derive(Clone, Copy)]
 pub enum Found {
     Whole,
     WrongLength,
@@ -16,14 +16,14 @@ pub enum Found {
 }
 
 // The state, or a refusal with zeros beside it.
-#[derive(Drop)]
+#[derive(Clone, Copy)]
 pub struct Read {
     pub found: Found,
     pub tag: Tag,
 }
 
 // Whether an image was written, or refused for the length of the bytes that were lent.
-#[derive(Drop)]
+#[derive(Clone, Copy)]
 pub enum Stored {
     Written,
     OtherLength,

@@ -9,7 +9,7 @@ use image::Found;
 use state::Tag;
 
 // What a run starts from: the fresh tag or the file's, or why from none.
-#[derive(Drop)]
+#[derive(Clone, Copy)]
 pub enum Start {
     Ready,
     OtherLength,
@@ -23,7 +23,7 @@ pub enum Start {
 }
 
 // The tag is the kept one where it is ready.
-#[derive(Drop)]
+#[derive(Clone, Copy)]
 pub struct Begun {
     pub start: Start,
     pub tag: Tag,

@@ -7,7 +7,7 @@ ghost use Rattle.lines.specs.Lines.{seek};
 ghost use Rattle.lines.specs.Hex.{digit_of, char_of, is_hex, byte_of, bytes_of, chars_room, decoded_number, decoded, decoded_room};
 
 // What decoding answers: the number of bytes, or why there are none.
-#[derive(Drop)]
+#[derive(Clone, Copy)]
 pub enum Decoded {
     Bytes(usize),
     NotHex,

@@ -6,7 +6,7 @@ mod protect;
 pub use protect::{command_iv, command_vector, message_mac, reply_iv, reply_vector};
 
 // How a command and its reply are protected.
-#[derive(Drop)]
+#[derive(Clone, Copy)]
 pub enum Mode {
     Plain,
     Mac,
@@ -14,7 +14,7 @@ pub enum Mode {
 }
 
 // What protects a message: the session's keys, TI and CmdCtr.
-#[derive(Drop)]
+#[derive(Clone, Copy)]
 pub struct Session {
     pub enc: [u8; 16],
     pub mac: [u8; 16],

@@ -15,7 +15,7 @@ use sdm::Tap;
 use spans::{Reading, Span};
 
 // What a tap mirrors, with which keys and which padding.
-#[derive(Drop)]
+#[derive(Clone, Copy)]
 pub struct Mirror {
     pub tap: Tap,
     pub meta_key: [u8; 16],
@@ -24,7 +24,7 @@ pub struct Mirror {
 }
 
 // The file with mirrors over it, and how many blocks were computed for them.
-#[derive(Drop)]
+#[derive(Clone, Copy)]
 pub struct Overlaid {
     pub file: [u8; 256],
     pub cost: usize,

@@ -12,7 +12,7 @@ ghost use Rattle.normalising.specs.Answers.{normalised, normal_room};
 use settings::{FileFault, Status, Verdict};
 
 // What normalising answers: the length of the normal string, or why there is none.
-#[derive(Drop)]
+#[derive(Clone, Copy)]
 pub enum Normalised {
     Normal(usize),
     BadFile(FileFault),

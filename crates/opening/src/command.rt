@@ -50,7 +50,7 @@ fn length_right(m: Mode, there: bool, h: usize, n: usize) -> bool
 }
 
 // Whether a command ends with its MAC, and how many blocks were computed for it.
-#[derive(Drop)]
+#[derive(Clone, Copy)]
 struct Checked {
     right: bool,
     cost: usize,

@@ -6,14 +6,14 @@ mod command;
 pub use command::open;
 
 // What opening a command came to, and how many blocks were computed.
-#[derive(Drop)]
+#[derive(Clone, Copy)]
 pub struct OpenedFor {
     pub opened: Opened,
     pub cost: usize,
 }
 
 // What it came to.
-#[derive(Drop)]
+#[derive(Clone, Copy)]
 pub enum Opened {
     // The plain data stands at the front of the room, this many bytes.
     Data(usize),

@@ -11,7 +11,7 @@ pub use fronts::key_status;
 pub use ordering::command_in;
 
 // The commands.
-#[derive(Drop)]
+#[derive(Clone, Copy)]
 pub enum Name {
     AuthenticateFirst,
     AuthenticateNonFirst,
@@ -30,7 +30,7 @@ pub enum Name {
 }
 
 // The command of a class and an INS.
-#[derive(Drop)]
+#[derive(Clone, Copy)]
 pub enum Named {
     Known(Name),
     Unknown,
@@ -38,7 +38,7 @@ pub enum Named {
 
 // A command: its name, class and INS; how long its header is and whether it has a data part; the key or the file that it is
 // about, P1 and P2, offset and length or Le, 0 where it has none; and where its data lies among its bytes.
-#[derive(Drop)]
+#[derive(Clone, Copy)]
 pub struct Command {
     pub name: Name,
     pub class: u8,
@@ -56,7 +56,7 @@ pub struct Command {
 }
 
 // The command, or the status that refuses it.
-#[derive(Drop)]
+#[derive(Clone, Copy)]
 pub enum Ordered {
     Is(Command),
     Refused(u16),

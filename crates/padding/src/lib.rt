@@ -6,7 +6,7 @@ ghost use Rattle.base.specs.Decide.{pick};
 ghost use Rattle.padding.specs.Padding.{unpad, unpadded_status, is_padded, Pads};
 
 // What a padded text was.
-#[derive(Drop)]
+#[derive(Clone, Copy)]
 pub enum Unpadded {
     // Its first bytes, this many.
     Text(usize),
@@ -14,7 +14,7 @@ pub enum Unpadded {
 }
 
 // What padding in a lent room came to.
-#[derive(Drop)]
+#[derive(Clone, Copy)]
 pub enum Padded {
     // The text is padded, and this long.
     Whole(usize),

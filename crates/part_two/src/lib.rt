@@ -20,7 +20,7 @@ fn ti_of(random: [u8; 20]) -> [u8; 4]
 }
 
 // A session, and how many blocks were computed for its keys.
-#[derive(Drop)]
+#[derive(Clone, Copy)]
 struct Started {
     live: Live,
     cost: usize,

@@ -7,7 +7,7 @@ ghost use Rattle.plans.specs.Numbers.{Means};
 mod parts;
 
 // Why a line is bad.
-#[derive(Drop)]
+#[derive(Clone, Copy)]
 pub enum Reason {
     NoCommand,
     Stray,
@@ -18,7 +18,7 @@ pub enum Reason {
 }
 
 // What a line asks for: a command of so many bytes with random bytes of the machine, or with those that it brings.
-#[derive(Drop)]
+#[derive(Clone, Copy)]
 pub enum Meaning {
     Blank,
     Drawn(usize),
@@ -27,7 +27,7 @@ pub enum Meaning {
 }
 
 // A line: what it asks for, and how many bytes of the reply it expects, 0 where it expects nothing.
-#[derive(Drop)]
+#[derive(Clone, Copy)]
 pub struct Line {
     pub meaning: Meaning,
     pub expected: usize,

@@ -10,7 +10,7 @@ use crate::{Line, Meaning, Reason};
 use lines::Decoded;
 
 // The bytes of a text of digits, or why there are none.
-#[derive(Drop)]
+#[derive(Clone, Copy)]
 pub enum Digits {
     Fine(usize),
     Wrong(Reason),

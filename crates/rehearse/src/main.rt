@@ -16,7 +16,7 @@ mod show;
 mod walk;
 
 // A run: whether it took place, the tag behind it, and how it went.
-#[derive(Drop)]
+#[derive(Clone, Copy)]
 struct Ran {
     ready: bool,
     tag: Tag,

@@ -10,7 +10,7 @@ use tallies::Tally;
 use turns::Turn;
 
 // The tag behind the lines.
-#[derive(Drop)]
+#[derive(Clone, Copy)]
 pub struct Rehearsal {
     pub tag: Tag,
     pub tally: Tally,

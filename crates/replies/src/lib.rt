@@ -9,7 +9,7 @@ use messaging::Mode;
 use state::{Live, Tag};
 
 // An answer: the status, as many bytes of data as the length says, the next state, and how many blocks were computed.
-#[derive(Drop)]
+#[derive(Clone, Copy)]
 pub struct Done {
     pub status: u16,
     pub length: usize,
@@ -19,7 +19,7 @@ pub struct Done {
 }
 
 // Bytes for a reply at the front of a room, and how many.
-#[derive(Drop)]
+#[derive(Clone, Copy)]
 pub struct Excerpt {
     pub bytes: [u8; 258],
     pub length: usize,

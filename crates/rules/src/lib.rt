@@ -16,7 +16,7 @@ pub use records::record_meets as meets;
 use spans::Reading;
 
 // The parts that 01 calls missing, the last for a whole length that is wrong.
-#[derive(Drop)]
+#[derive(Clone, Copy)]
 pub enum Part {
     OptionByte,
     RightsBytes,
@@ -26,7 +26,7 @@ pub enum Part {
 }
 
 // The tests of 01, in its order.
-#[derive(Drop)]
+#[derive(Clone, Copy)]
 pub enum Check {
     OptionBits,
     SdmFile,
@@ -48,7 +48,7 @@ pub enum Check {
 }
 
 // The first rule that a string breaks.
-#[derive(Drop)]
+#[derive(Clone, Copy)]
 pub enum Finding {
     Kept,
     Missing(Part),
@@ -56,7 +56,7 @@ pub enum Finding {
 }
 
 // The first rule that a string breaks, and what the string means, good or not.
-#[derive(Drop)]
+#[derive(Clone, Copy)]
 pub struct Examined {
     pub finding: Finding,
     pub reading: Reading,

@@ -48,7 +48,7 @@ fn three(counter: u32) -> [u8; 3]
 }
 
 // UID and counter as far as they are mirrored, at the front of zeros, and how many bytes they are.
-#[derive(Drop)]
+#[derive(Clone, Copy)]
 struct Mirror {
     bytes: [u8; 10],
     count: usize,

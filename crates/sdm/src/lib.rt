@@ -6,7 +6,7 @@ mod codes;
 pub use codes::{picc_data, tap_enc_key, tap_encrypt, tap_iv, tap_mac, tap_mac_key};
 
 // A tap: its UID and its counter, and whether they are mirrored.
-#[derive(Drop)]
+#[derive(Clone, Copy)]
 pub struct Tap {
     pub uid: [u8; 7],
     pub counter: u32,
@@ -15,7 +15,7 @@ pub struct Tap {
 }
 
 // Whether the text of ENC was whole blocks, and how many were computed.
-#[derive(Drop)]
+#[derive(Clone, Copy)]
 pub struct Hidden {
     pub whole: bool,
     pub cost: usize,

@@ -5,7 +5,7 @@ ghost use Rattle.std.specs.Prelude.{◌≡◌, ◌∷◌};
 ghost use Rattle.session_keys.specs.Keys.{context, session_keys};
 
 // The keys of a session, and how many blocks were computed for them.
-#[derive(Drop)]
+#[derive(Clone, Copy)]
 pub struct Keys {
     pub enc: [u8; 16],
     pub mac: [u8; 16],

@@ -10,27 +10,27 @@ use rules::Finding;
 use spans::Reading;
 
 // 917E and 919E of Table 71.
-#[derive(Drop)]
+#[derive(Clone, Copy)]
 pub enum Status {
     LengthError,
     ParameterError,
 }
 
 // What is wrong with a file byte: over 31, or not 1 to 3.
-#[derive(Drop)]
+#[derive(Clone, Copy)]
 pub enum FileFault {
     OverThirtyOne,
     NoSuchFile,
 }
 
 // Whether there is a file of a number.
-#[derive(Drop)]
+#[derive(Clone, Copy)]
 pub enum Filed {
     Known,
     Unknown(FileFault),
 }
 
-#[derive(Drop)]
+#[derive(Clone, Copy)]
 pub enum Verdict {
     Good,
     Refused(Status),
@@ -38,14 +38,14 @@ pub enum Verdict {
 }
 
 // The verdict on a string, and what it means, good or not.
-#[derive(Drop)]
+#[derive(Clone, Copy)]
 pub struct Seen {
     pub verdict: Verdict,
     pub reading: Reading,
 }
 
 // What reading answers.
-#[derive(Drop)]
+#[derive(Clone, Copy)]
 pub enum Told {
     Means(Reading),
     Unread(Status),

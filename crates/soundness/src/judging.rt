@@ -13,7 +13,7 @@ use spans::Reading;
 use state::Tag;
 
 // Whether the settings of a file have at most 27 bytes, keep the rules and are normal; and what they mean.
-#[derive(Drop)]
+#[derive(Clone, Copy)]
 struct FileJudged {
     sound: bool,
     reading: Reading,

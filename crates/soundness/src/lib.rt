@@ -7,7 +7,7 @@ pub use judging::{judge_tag, sound};
 use spans::Reading;
 
 // Whether a state is sound, and the readings of files 1 to 3, sound or not.
-#[derive(Drop)]
+#[derive(Clone, Copy)]
 pub struct Judged {
     pub sound: bool,
     pub first: Reading,

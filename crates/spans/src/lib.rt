@@ -9,7 +9,7 @@ ghost use Rattle.spans.specs.Spans.{span, uid_span, counter_span, picc_span, enc
 use fields::Settings;
 
 // Bytes of the file that a mirror takes; one that is not there starts at 0 and has none.
-#[derive(Drop)]
+#[derive(Clone, Copy)]
 pub struct Span {
     pub present: bool,
     pub start: u32,
@@ -17,7 +17,7 @@ pub struct Span {
 }
 
 // What a string means, with the spans of its mirrors.
-#[derive(Drop)]
+#[derive(Clone, Copy)]
 pub struct Reading {
     pub settings: Settings,
     pub uid: Span,

@@ -11,7 +11,7 @@ pub use parts::{
 
 // The files' bytes (file 1 from 0, file 2 from 32, file 3 from 288), their settings strings (27 bytes for each) and the
 // strings' lengths.
-#[derive(Drop)]
+#[derive(Clone, Copy)]
 pub struct Files {
     pub bytes: [u8; 416],
     pub rules: [u8; 81],
@@ -19,14 +19,14 @@ pub struct Files {
 }
 
 // The five keys, 16 bytes each, and their versions.
-#[derive(Drop)]
+#[derive(Clone, Copy)]
 pub struct Secrets {
     pub keys: [u8; 80],
     pub versions: [u8; 5],
 }
 
 // A session. One that has ended holds zeros.
-#[derive(Drop)]
+#[derive(Clone, Copy)]
 pub struct Live {
     pub on: bool,
     pub key: u8,
@@ -37,7 +37,7 @@ pub struct Live {
 }
 
 // A part two that is pending, of 71 (first) or of 77. One that has ended, and what does not apply, holds zeros.
-#[derive(Drop)]
+#[derive(Clone, Copy)]
 pub struct Pending {
     pub on: bool,
     pub first: bool,
@@ -49,7 +49,7 @@ pub struct Pending {
 }
 
 // Whether the application is selected, and the selected file, 0 for none.
-#[derive(Drop)]
+#[derive(Clone, Copy)]
 pub struct Place {
     pub application: bool,
     pub file: u8,
@@ -57,7 +57,7 @@ pub struct Place {
 
 // Whether a tap runs, whether by ISOReadBinary, the tap counter, and the padding that was drawn when the tap started. Where no tap
 // runs the padding is zeros.
-#[derive(Drop)]
+#[derive(Clone, Copy)]
 pub struct Tapping {
     pub on: bool,
     pub iso: bool,
@@ -65,7 +65,7 @@ pub struct Tapping {
     pub padding: [u8; 12],
 }
 
-#[derive(Drop)]
+#[derive(Clone, Copy)]
 pub struct Tag {
     pub uid: [u8; 7],
     pub files: Files,

@@ -118,7 +118,7 @@ fn on_bytes(tag: Tag, k: Command, r: Reading, d: Decision, c: &[u8], random: [u8
 }
 
 // An answer, and what a journal notes of it.
-#[derive(Drop)]
+#[derive(Clone, Copy)]
 pub struct Journalled {
     pub done: Done,
     pub noted: Noted,

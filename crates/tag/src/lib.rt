@@ -10,7 +10,7 @@ pub use entry::call;
 pub use state::Tag;
 
 // A reply, or refusals 1 to 3.
-#[derive(Drop)]
+#[derive(Clone, Copy)]
 pub enum Outcome {
     Replied,
     SmallRoom,
@@ -19,7 +19,7 @@ pub enum Outcome {
 }
 
 // The outcome, the reply's length, the next state, what a journal notes of the call, and how many AES blocks were computed.
-#[derive(Drop)]
+#[derive(Clone, Copy)]
 pub struct Called {
     pub outcome: Outcome,
     pub length: usize,

@@ -14,7 +14,7 @@ use delivery::Made;
 use state::Tag;
 
 // What a line of digits is.
-#[derive(Drop)]
+#[derive(Clone, Copy)]
 pub enum LogLine {
     Whole,
     NotCapitalHex,
@@ -23,7 +23,7 @@ pub enum LogLine {
 }
 
 // What a line is, and its bytes at the front of a room; none where it is not whole.
-#[derive(Drop)]
+#[derive(Clone, Copy)]
 pub struct Field {
     pub what: LogLine,
     pub length: usize,
@@ -31,7 +31,7 @@ pub struct Field {
 }
 
 // Whether an exchange differs, and the tag after it.
-#[derive(Drop)]
+#[derive(Clone, Copy)]
 pub struct Played {
     pub differs: bool,
     pub tag: Tag,

@@ -6,7 +6,7 @@ ghost use Rattle.tallies.specs.Counts.{sum_by, more_by, first_by, counted_by, no
 
 // What a line did: a command was played, its reply refused; the line was skipped, since the machine gave no random bytes; it expected
 // something, and the reply was not that. And how many AES blocks were computed for it.
-#[derive(Drop)]
+#[derive(Clone, Copy)]
 pub struct Went {
     pub played: bool,
     pub refused: bool,
@@ -18,7 +18,7 @@ pub struct Went {
 }
 
 // How many lines did each of these; the first line whose reply was not as expected, 0 where none was; the AES blocks of all lines.
-#[derive(Drop)]
+#[derive(Clone, Copy)]
 pub struct Tally {
     pub exchanges: u64,
     pub refused: u64,

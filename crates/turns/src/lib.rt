@@ -14,14 +14,14 @@ use tallies::Went;
 use telling::Why;
 
 // The tag behind a line.
-#[derive(Drop)]
+#[derive(Clone, Copy)]
 pub struct Turn {
     pub tag: Tag,
     pub went: Went,
 }
 
 // A turn, the reply: as many first bytes of the room, and what is noted of it.
-#[derive(Drop)]
+#[derive(Clone, Copy)]
 pub struct Acted {
     pub turn: Turn,
     pub length: usize,
@@ -30,7 +30,7 @@ pub struct Acted {
 }
 
 // The turn, and how much of the room its text takes.
-#[derive(Drop)]
+#[derive(Clone, Copy)]
 pub struct Taken {
     pub turn: Turn,
     pub length: usize,

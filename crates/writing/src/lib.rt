@@ -11,7 +11,7 @@ use settings::{FileFault, Filed};
 mod text;
 
 // What writing a record answers: the length of its string, or why there is none.
-#[derive(Drop)]
+#[derive(Clone, Copy)]
 pub enum Written {
     Laid(usize),
     NoFile(FileFault),
