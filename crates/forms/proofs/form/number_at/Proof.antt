@@ -1,0 +1,21 @@
+-- `forms::form::number_at` meets its contract.
+use mathlib.Core.Path.{sym}
+use lib.ListN.{get_or-eq_default}
+use borrow.Author.Rules.{rules}
+use Rattle.forms.proofs.form.number_at.Statement.{statement}
+use Rattle.forms.proofs.form.number_at.Tie as tie
+
+mul-result : tie.Need-overflow-mul-result
+mul-result c = search rules
+
+shared-slice-read-result : tie.Need-shared-slice-read-result
+shared-slice-read-result c = search rules
+
+returns : tie.Need-returns
+returns c = search rules
+
+returns-2 : tie.Need-returns-2
+returns-2 c = let a = c.before.args in sym (get_or-eq_default a.numbers.now 0 {n = a.k} c.if1.false)
+
+pub number_at_spec : {M : Type 1} → statement M
+number_at_spec = tie.close (tie.spec mul-result shared-slice-read-result returns returns-2)
