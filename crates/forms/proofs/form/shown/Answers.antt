@@ -1,5 +1,4 @@
 -- `forms::form::shown` meets its contract.
-use mathlib.Core.Logic.{⊎_elim}
 use mathlib.Core.Path.{refl, sym, ap, ◌∙◌}
 use native.Mathlib.Omega.{arith}
 use mathlib.Core.List.{[], ◌∷◌}
@@ -8,6 +7,7 @@ use borrow.Author.Tests.{eq-eqb, ne_eqb, le-leb, lt-leb}
 use Rattle.forms.specs.Forms.{shown_as}
 use Rattle.lines.specs.Hex.{char_of}
 use Rattle.forms.proofs.form.shown.Goals as goal
+use Rattle.forms.proofs.form.shown.Goals.{then-c-ge123+else-c-le125, else-c-ge123}
 
 pub returns-then-c-eq35 : goal.returns-then-c-eq35
 unfolding shown_as
@@ -32,6 +32,9 @@ returns-then-c-le125 c = rw (
 pub returns : goal.returns
 unfolding shown_as
 returns c =
-    let if1 = c.if-c-eq35 in
-    let if2 = c.if-c-eq37 in
-    ⊎_elim (λ h. rw (ne_eqb _ 35 if1.false, ne_eqb _ 37 if2.false, le-leb 123 _ h.0.taken, lt-leb _ 125 h.1.left) c.append-2.ensures) (λ h. rw (ne_eqb _ 35 if1.false, ne_eqb _ 37 if2.false, lt-leb 123 _ h.left) c.append-2.ensures) c.if-c-ge123.branch
+    let if1 = c.if-c-eq35.false in
+    let if2 = c.if-c-eq37.false in
+    elim c.if-c-ge123.branch [
+      | then-c-ge123+else-c-le125 w ↦ rw (ne_eqb _ 35 if1, ne_eqb _ 37 if2, le-leb 123 _ w.if-c-ge123.true, lt-leb _ 125 w.if-c-le125.false) c.append-2.ensures
+      | else-c-ge123 w ↦ rw (ne_eqb _ 35 if1, ne_eqb _ 37 if2, lt-leb 123 _ w.if-c-ge123.false) c.append-2.ensures
+    ]
