@@ -1,0 +1,17 @@
+-- `authentication::encipher_two` meets its contract: two blocks are whole.
+use mathlib.Core.Path.{◌≡◌, refl, ap, ap₂, ◌∙◌}
+use lib.ListN.{length}
+use Rattle.cbc.specs.Cbc.{cbc_out, cbc_cost}
+use Rattle.cbc.proofs.Turns.{chains_whole, chains_cost}
+use Rattle.authentication.specs.Authentication.{enciphered, paired}
+use borrow.Author.Rules.{rules}
+use borrow.Author.Rules.{rules}
+use Rattle.authentication.proofs.encipher_two.Goals as goal
+
+pub returns : goal.returns
+unfolding enciphered
+returns c =
+    let x = c.args.x in
+    let l : length x ≡ 32 = search rules in
+    let e = c.cbc_encrypt-c.ensures in
+    ap₂ paired (chains_whole e (rw l refl) ∙ ap (λ w. cbc_out w _ x) c.expand-w.ensures) (chains_cost e (rw l refl) ∙ ap cbc_cost l)
