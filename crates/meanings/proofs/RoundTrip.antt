@@ -7,7 +7,7 @@ use Prim.Native.Nat.{ℕ, ◌+◌, ◌*◌, ◌/◌, ◌%◌, ◌≤◌}
 use native.Mathlib.Omega.{arith}
 use lib.Dec.{eqb, leb}
 use lib.ListN.{length, drop}
-use borrow.Author.Tests.{eqb-true, not_true}
+use borrow.Author.Tests.{eqb-true, not-true}
 use Rattle.base.specs.Decide.{pick, and, or}
 use Rattle.base.specs.Bytes.{byte_at, AllBytes}
 use Rattle.base.proofs.Bytes.{and_left, and_right}
@@ -225,10 +225,10 @@ off_parts h e =
     let x : Both (eqb h.sdm_meta_read 0) (and (eqb h.sdm_file_read 0) (eqb h.sdm_ctr_ret 0)) = both (and_right n z e) in
     let y : Both (eqb h.sdm_file_read 0) (eqb h.sdm_ctr_ret 0) = both x.right in
     record {
-      uid = not_true _ a.left;
-      counter = not_true _ b.left;
-      limit = not_true _ c.left;
-      enc = not_true _ c.right;
+      uid = not-true _ a.left;
+      counter = not-true _ b.left;
+      limit = not-true _ c.left;
+      enc = not-true _ c.right;
       meta = eqb-true _ _ x.left;
       file = eqb-true _ _ y.left;
       ret = eqb-true _ _ y.right;

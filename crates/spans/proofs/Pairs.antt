@@ -6,7 +6,7 @@ use Prim.Native.Nat.{ℕ, ◌+◌, ◌<◌}
 use native.Mathlib.Numerals.{add-one}
 use lib.ListN.{length, get_or, drop}
 use lib.Seq.{drop-cons}
-use borrow.Author.Tests.{not_true, not_false}
+use borrow.Author.Tests.{not-true, not-false}
 use Rattle.base.specs.Decide.{and}
 use Rattle.spans.specs.declared.Span.{Span}
 use Rattle.spans.specs.Spans.{apart, apart_from, all_apart}
@@ -23,7 +23,7 @@ all_step d s i h = rw (add-one, drop-cons s i d h)
 
 -- what a test in the code says of a truth value that it computes
 pub on : {b t : Bool} → b ≡ t → not b ≡ false → t ≡ true
-on {b} e h = sym e ∙ not_false b h
+on {b} e h = sym e ∙ not-false b h
 
 pub off : {b t : Bool} → b ≡ t → not b ≡ true → t ≡ false
-off {b} e h = sym e ∙ not_true b h
+off {b} e h = sym e ∙ not-true b h

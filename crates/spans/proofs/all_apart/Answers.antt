@@ -5,7 +5,7 @@ use mathlib.Core.Bool.{true, false}
 use native.Mathlib.Omega.{arith}
 use borrow.Author.Rules.{rules}
 use lib.ListN.{length, drop, get_or, drop_of_length-le}
-use borrow.Author.Tests.{not_true, not_false}
+use borrow.Author.Tests.{not-true, not-false}
 use Rattle.spans.specs.declared.Span.{Span}
 use Rattle.spans.specs.Spans.{apart_from, all_apart}
 use Rattle.spans.proofs.Pairs.{from_step, all_step, on, off}
@@ -25,8 +25,8 @@ loop-j-preserved c =
     let z : Span = record { present = false; start = 0; size = 0 } in
     let a = get_or s c.pairs.i z in (
       omega arith,
-      not_false _ c.if-not-clear.false,
-      sym (from_step a z s j (omega arith) ∙ rw (on c.are_apart-clear.ensures c.if-not-clear.false) refl) ∙ c.loop-j.invariant.2,
+      c.if-not-clear.false,
+      sym (from_step a z s j (omega arith) ∙ rw (sym c.are_apart-clear.ensures ∙ c.if-not-clear.false) refl) ∙ c.loop-j.invariant.2,
     )
 
 pub pairs-preserved : goal.pairs-preserved
@@ -60,6 +60,6 @@ returns-then-not-clear c =
     let z : Span = record { present = false; start = 0; size = 0 } in
     let a = get_or s i z in
     let e : apart_from a (drop j s) ≡ false =
-    from_step a z s j (omega arith) ∙ rw (off c.are_apart-clear.ensures c.if-not-clear.true) refl in
-    not_true _ c.if-not-clear.true
+    from_step a z s j (omega arith) ∙ rw (sym c.are_apart-clear.ensures ∙ c.if-not-clear.true) refl in
+    c.if-not-clear.true
     ∙ sym (sym c.pairs.invariant.2 ∙ all_step z s i (omega arith) ∙ rw (sym c.loop-j.invariant.2 ∙ e) refl)
