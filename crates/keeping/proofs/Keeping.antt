@@ -18,7 +18,7 @@ use Rattle.image.specs.Answers.{bits_at, booleans, right_length, whole, refused_
 use Rattle.keeping.specs.declared.Start.{Start}
 use Rattle.keeping.specs.declared.Start.TheVariants.{Ready, Unsound, OtherUid}
 use Rattle.keeping.specs.declared.Begun.{Begun}
-use Rattle.keeping.specs.Keep.{start_number, fresh_start, anew_by, Starts, earlier, start_by, kept_by_lem, kept_in, kept_case, Keeps}
+use Rattle.keeping.specs.Keep.{start_number, fresh_start, anew_by, Starts, earlier, start_by, kept_by, kept_in, kept_case, Keeps}
 
 -- what a run starts from, by number
 judged-number : (sound mine : Bool) → start_number (pick sound (pick mine Ready OtherUid) Unsound) ≡ pick sound (pick mine 0 5) 4
@@ -28,9 +28,9 @@ judged-number true false = refl
 judged-number false mine = refl
 
 kept_by_lem : (long version bits old : Bool) (t : Tag) (uid : List ℕ)
-    → start_number (kept_by_lem (pick long (pick version (pick bits (whole t) (refused_as NotABoolean)) (refused_as WrongVersion)) (refused_as WrongLength)) old uid).start
+    → start_number (kept_by (pick long (pick version (pick bits (whole t) (refused_as NotABoolean)) (refused_as WrongVersion)) (refused_as WrongLength)) old uid).start
     ≡ pick long (pick version (pick bits (pick (sound_tag t) (pick (same uid t.uid) 0 5) 4) 3) 2) (pick old 8 1)
-unfolding kept_by_lem start_by start_number
+unfolding kept_by start_by start_number
 kept_by_lem true true true old t uid = judged-number (sound_tag t) (same uid t.uid)
 kept_by_lem true true false old t uid = refl
 kept_by_lem true false bits old t uid = refl
@@ -44,10 +44,10 @@ kept_number s uid = kept_by_lem (right_length s) (eqb (byte_at s 0) image_versio
 -- what was read, judged by its parts
 kept_is : (s uid : List ℕ) (r : Read) (v : Start) (o a b : Bool) → r ≡ read_in s → o ≡ earlier s → a ≡ sound_tag r.tag → b ≡ same uid r.tag.uid
     → v ≡ start_by r.found o a b → ◌≡◌ {A = Begun} (record { start = v; tag = r.tag }) (kept_in s uid)
-unfolding kept_in kept_by_lem
+unfolding kept_in kept_by
 kept_is s uid r v o a b h f p q e =
-    let w : ◌≡◌ {A = Begun} (record { start = v; tag = r.tag }) (kept_by_lem r o uid) = λ i. record { start = (e ∙ ap₂ (λ x y. start_by r.found o x y) p q) i; tag = r.tag } in
-    w ∙ ap₂ (λ x y. kept_by_lem x y uid) h f
+    let w : ◌≡◌ {A = Begun} (record { start = v; tag = r.tag }) (kept_by r o uid) = λ i. record { start = (e ∙ ap₂ (λ x y. start_by r.found o x y) p q) i; tag = r.tag } in
+    w ∙ ap₂ (λ x y. kept_by x y uid) h f
 
 pub keeps : (s uid : List ℕ) (r : Read) (v : Start) (o a b : Bool) → r ≡ read_in s → o ≡ earlier s → a ≡ sound_tag r.tag → b ≡ same uid r.tag.uid
     → v ≡ start_by r.found o a b → Keeps s uid (record { start = v; tag = r.tag })

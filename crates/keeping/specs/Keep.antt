@@ -51,12 +51,12 @@ start_by WrongVersion old sound mine = OtherVersion
 start_by NotABoolean old sound mine = NotABit
 start_by Whole old sound mine = pick sound (pick mine Ready OtherUid) Unsound
 
-unfoldable pub kept_by_lem : Read → Bool → List ℕ → Begun
-kept_by_lem r old uid = record { start = start_by r.found old (sound_tag r.tag) (same uid r.tag.uid); tag = r.tag }
+unfoldable pub kept_by : Read → Bool → List ℕ → Begun
+kept_by r old uid = record { start = start_by r.found old (sound_tag r.tag) (same uid r.tag.uid); tag = r.tag }
 
 -- what a file's bytes give a plan for the tag with a UID to start from
 unfoldable pub kept_in : List ℕ → List ℕ → Begun
-kept_in s uid = kept_by_lem (read_in s) (earlier s) uid
+kept_in s uid = kept_by (read_in s) (earlier s) uid
 
 -- the same by number
 unfoldable pub kept_case : List ℕ → List ℕ → ℕ

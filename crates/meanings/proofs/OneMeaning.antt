@@ -19,9 +19,9 @@ use Rattle.rules.specs.declared.Check.TheVariants.{OptionBits, SdmFile, Rights, 
 use Rattle.settings.specs.declared.Verdict.TheVariants.{Good}
 use Rattle.rules.specs.declared.Finding.{Finding}
 use Rattle.rules.specs.declared.Finding.TheVariants.{Kept}
-use Rattle.fields.specs.Fields.{sdm_on, head_of, present, written, listed, read_of, size_of, front_bytes_lem, sdm_bytes, string_of}
+use Rattle.fields.specs.Fields.{sdm_on, head_of, present, written, listed, read_of, size_of, front_bytes, sdm_bytes, string_of}
 use Rattle.rules.specs.Rules.{Rule, there, right, found, kept, option_bits, sdm_file, rights, sdm_options_bits, sdm_rights}
-use Rattle.rules.specs.Rules.{position_rules, sdm_rules, rest_rules, rules, fields_fit_lem, sdm_meets, sdm_absent, sdm_part, modes, meets}
+use Rattle.rules.specs.Rules.{position_rules, sdm_rules, rest_rules, rules, fields_fit, sdm_meets, sdm_absent, sdm_part, modes, meets}
 use Rattle.fields.specs.Normal.{normal}
 use Rattle.settings.specs.Answers.{judged}
 use Rattle.meanings.specs.Meaning.{OneString, SameMeaning}
@@ -67,7 +67,7 @@ unfolding meets read_of
 good-meets n s b e =
     let k = front_kept n s e in
     and_both (and_both (mode_read s) (and_both k.file k.conditions))
-    (and_both (ap (λ v. fields_fit_lem (present (head_of s)) v) (trip.listed_places s (head_of s)) ∙ fields_fit_lem (present (head_of s)) s 6 b) (part_read n s e))
+    (and_both (ap (λ v. fields_fit (present (head_of s)) v) (trip.listed_places s (head_of s)) ∙ fields_fit_lem (present (head_of s)) s 6 b) (part_read n s e))
 
 -- ---- the string of a record that meets the rules is good
 there_kept : (p : Part) (b : Bool) (rs : List Rule) → b ≡ true → found rs ≡ Kept → found (there p b ∷ rs) ≡ Kept
@@ -78,20 +78,20 @@ right_kept : (k : Check) (b : Bool) (rs : List Rule) → b ≡ true → found rs
 unfolding found
 right_kept k b rs h e = rw h e
 
-front_first : (h : Head) (w : List ℕ) → modes h.mode ≡ true → option_bits (byte_at (front_bytes_lem h ++ w) 0) ≡ true
-unfolding front_bytes_lem
+front_first : (h : Head) (w : List ℕ) → modes h.mode ≡ true → option_bits (byte_at (front_bytes h ++ w) 0) ≡ true
+unfolding front_bytes
 front_first h w m = option_good h.mode h.sdm (mode_small h.mode m)
 
-front_long : (h : Head) (w : List ℕ) → length (front_bytes_lem h ++ w) ≡ 3 + length w
-unfolding front_bytes_lem
+front_long : (h : Head) (w : List ℕ) → length (front_bytes h ++ w) ≡ 3 + length w
+unfolding front_bytes
 front_long h w = omega arith
 
 sdm_long : (h : Head) (w : List ℕ) → length (sdm_bytes h ++ w) ≡ 3 + length w
 unfolding sdm_bytes
 sdm_long h w = omega arith
 
-sdm_first : (h : Head) (w : List ℕ) → sdm_options_bits (byte_at (front_bytes_lem h ++ (sdm_bytes h ++ w)) 3) ≡ true
-unfolding front_bytes_lem sdm_bytes
+sdm_first : (h : Head) (w : List ℕ) → sdm_options_bits (byte_at (front_bytes h ++ (sdm_bytes h ++ w)) 3) ≡ true
+unfolding front_bytes sdm_bytes
 sdm_first h w = packed-good h.uid h.counter h.limit h.enc
 
 -- the rules of a string whose parts are known
@@ -108,17 +108,17 @@ string_kept n s h i j e l o f r k =
     (ap (λ x. found (rest_rules s x)) e ∙ k))))))
 
 judged_on : (n : ℕ) (r : Settings) → 1 ≤ n → n ≤ 3 → meets n r ≡ true → r.head.sdm ≡ true
-    → judged n (front_bytes_lem r.head ++ (sdm_bytes r.head ++ written (present r.head) (listed r.places))) ≡ Good
+    → judged n (front_bytes r.head ++ (sdm_bytes r.head ++ written (present r.head) (listed r.places))) ≡ Good
 unfolding sdm_rules
 judged_on n r i j e o =
     let h = r.head in
     let w = written (present h) (listed r.places) in
-    let s = front_bytes_lem h ++ (sdm_bytes h ++ w) in
+    let s = front_bytes h ++ (sdm_bytes h ++ w) in
     let m = meets-parts n r e in
     let x = trip.whole_on n r e o in
     let p = sdm-parts r (trip.part_on n r e o) in
-    let l : length (front_bytes_lem h ++ (sdm_bytes h ++ w)) ≡ 6 + length w = omega (arith, front_long h (sdm_bytes h ++ w), sdm_long h w) in
-    let z : length (front_bytes_lem h ++ (sdm_bytes h ++ w)) ≡ size_of h = l ∙ written-length (present h) (listed r.places) 6 (trip.same_number h r.places) ∙ sym (trip.size_on h o) in
+    let l : length (front_bytes h ++ (sdm_bytes h ++ w)) ≡ 6 + length w = omega (arith, front_long h (sdm_bytes h ++ w), sdm_long h w) in
+    let z : length (front_bytes h ++ (sdm_bytes h ++ w)) ≡ size_of h = l ∙ written-length (present h) (listed r.places) 6 (trip.same_number h r.places) ∙ sym (trip.size_on h o) in
     string_kept n s h i j x.head (omega arith) (front_first h (sdm_bytes h ++ w) m.mode) m.file m.conditions
     (ap found (rest_on s h (trip.front-sdm h (sdm_bytes h ++ w) m.mode ∙ o))
     ∙ there_kept SdmOptionsByte _ _ (le-leb 4 (length s) (omega arith))
@@ -131,28 +131,28 @@ judged_on n r i j e o =
     (there_kept Whole _ _ (eq-eqb _ _ z)
     (ap (λ y. found (position_rules (record { head = h; places = y }))) x.places ∙ kept_is _ p.positions)))))))))
 
-three_is : (h : Head) → length (front_bytes_lem h) ≡ 3
-unfolding front_bytes_lem
+three_is : (h : Head) → length (front_bytes h) ≡ 3
+unfolding front_bytes
 three_is h = refl
 
-three_long : (h : Head) → 3 ≤ length (front_bytes_lem h)
+three_long : (h : Head) → 3 ≤ length (front_bytes h)
 three_long h = let e = three_is h in omega arith
 
-first_alone : (h : Head) → modes h.mode ≡ true → option_bits (byte_at (front_bytes_lem h) 0) ≡ true
-unfolding front_bytes_lem
+first_alone : (h : Head) → modes h.mode ≡ true → option_bits (byte_at (front_bytes h) 0) ≡ true
+unfolding front_bytes
 first_alone h m = option_good h.mode h.sdm (mode_small h.mode m)
 
 none_found : found [] ≡ Kept
 unfolding found
 none_found = refl
 
-judged_off : (n : ℕ) (r : Settings) → 1 ≤ n → n ≤ 3 → meets n r ≡ true → r.head.sdm ≡ false → judged n (front_bytes_lem r.head) ≡ Good
+judged_off : (n : ℕ) (r : Settings) → 1 ≤ n → n ≤ 3 → meets n r ≡ true → r.head.sdm ≡ false → judged n (front_bytes r.head) ≡ Good
 judged_off n r i j e o =
     let h = r.head in
     let m = meets-parts n r e in
     let x = trip.whole_off n r e o in
-    string_kept n (front_bytes_lem h) h i j x.head (three_long h) (first_alone h m.mode) m.file m.conditions
-    (ap found (rest_off (front_bytes_lem h) h (trip.front-sdm_alone h m.mode ∙ o))
+    string_kept n (front_bytes h) h i j x.head (three_long h) (first_alone h m.mode) m.file m.conditions
+    (ap found (rest_off (front_bytes h) h (trip.front-sdm_alone h m.mode ∙ o))
     ∙ there_kept Whole _ _ (eq-eqb _ _ (three_is h ∙ sym (trip.size_off h o))) none_found)
 
 -- The string of a record that meets the rules is good
@@ -191,8 +191,8 @@ written-bytes [] vs = bytes_none
 written-bytes (p ∷ ps) [] = bytes_none
 written-bytes (p ∷ ps) (v ∷ vs) = bytes-append (pick p (low 3 v) []) (written ps vs) (piece_bytes p v) (written-bytes ps vs)
 
-front_bytes_lem : (h : Head) → modes h.mode ≡ true → rights h ≡ true → AllBytes (front_bytes_lem h)
-unfolding front_bytes_lem
+front_bytes_lem : (h : Head) → modes h.mode ≡ true → rights h ≡ true → AllBytes (front_bytes h)
+unfolding front_bytes
 front_bytes_lem h m r =
     let f = rights_small h r in
     let l = mode_small h.mode m in
@@ -217,7 +217,7 @@ pub string_bytes : (n : ℕ) (r : Settings) → meets n r ≡ true → AllBytes 
 unfolding string_of
 string_bytes n r e =
     let m = meets-parts n r e in
-    bytes-append (front_bytes_lem r.head) _ (front_bytes_lem r.head m.mode m.conditions)
+    bytes-append (front_bytes r.head) _ (front_bytes_lem r.head m.mode m.conditions)
     (rest-bytes r.head.sdm _
     (bytes-append (sdm_bytes r.head) _ (sdm-bytes r.head (meets-rights n r e)) (written-bytes (present r.head) (listed r.places))))
 

@@ -16,8 +16,8 @@ use Rattle.fields.specs.declared.Places.{Places}
 use Rattle.fields.specs.declared.Settings.{Settings}
 use Rattle.settings.specs.declared.Verdict.TheVariants.{Good}
 use Rattle.fields.specs.Fields.{bit, sdm_on, sdm_byte, mode_of, head_of, has_uid, has_counter, has_picc, has_mac, has_enc}
-use Rattle.fields.specs.Fields.{present, fields, ends, written, places_of, listed, places_in, read_of, size_of, front_bytes_lem, sdm_bytes, string_of}
-use Rattle.rules.specs.Rules.{option_bits, rights, sdm_options_bits, sdm_rights, field_fits, fields_fit_lem, sdm_meets, sdm_absent, sdm_part, modes, meets}
+use Rattle.fields.specs.Fields.{present, fields, ends, written, places_of, listed, places_in, read_of, size_of, front_bytes, sdm_bytes, string_of}
+use Rattle.rules.specs.Rules.{option_bits, rights, sdm_options_bits, sdm_rights, field_fits, fields_fit, sdm_meets, sdm_absent, sdm_part, modes, meets}
 use Rattle.fields.specs.Normal.{plain_mode, free_bits, normal}
 use Rattle.settings.specs.Answers.{judged}
 use Rattle.meanings.proofs.Bits.{mode_read, sdm_read, option_back, options_back, packed_7, packed_6, packed_5, packed_4}
@@ -50,8 +50,8 @@ on_byte s i e = ap (λ t. pick t (byte_at s i) 0) e
 halves : (x : ℕ) → x / 16 * 16 + x % 16 ≡ x
 halves x = omega arith
 
-front-back : (s : List ℕ) → AllBytes s → option_bits (byte_at s 0) ≡ true → front_bytes_lem (head_of s) ≡ plain_mode (byte_at s 0) ∷ byte_at s 1 ∷ byte_at s 2 ∷ []
-unfolding front_bytes_lem head_of sdm_on AllBytes
+front-back : (s : List ℕ) → AllBytes s → option_bits (byte_at s 0) ≡ true → front_bytes (head_of s) ≡ plain_mode (byte_at s 0) ∷ byte_at s 1 ∷ byte_at s 2 ∷ []
+unfolding front_bytes head_of sdm_on AllBytes
 front-back s b e = rw (option_back (byte_at s 0) (b 0) e, halves (byte_at s 1), halves (byte_at s 2)) refl
 
 sdm-back : (s : List ℕ) → AllBytes s → sdm_on s ≡ true → sdm_options_bits (byte_at s 3) ≡ true
@@ -101,7 +101,7 @@ pub written_read : (n : ℕ) (s : List ℕ) → AllBytes s → judged n s ≡ Go
 unfolding read_of
 written_read n s b e = by (sdm_on s) refl
   where
-    f : front_bytes_lem (head_of s) ≡ plain_mode (byte_at s 0) ∷ byte_at s 1 ∷ byte_at s 2 ∷ []
+    f : front_bytes (head_of s) ≡ plain_mode (byte_at s 0) ∷ byte_at s 1 ∷ byte_at s 2 ∷ []
     f = front-back s b (front_kept n s e).bits
 
     by : (t : Bool) → sdm_on s ≡ t → string_of (record { head = head_of s; places = places_in s (head_of s) }) ≡ normal s
@@ -149,21 +149,21 @@ low_half a b h = omega arith
 ret_read : (a : ℕ) → a ≤ 15 → (240 + a) % 16 ≡ a
 ret_read a h = omega arith
 
-pub front-sdm : (h : Head) (w : List ℕ) → modes h.mode ≡ true → sdm_on (front_bytes_lem h ++ w) ≡ h.sdm
-unfolding front_bytes_lem sdm_on
+pub front-sdm : (h : Head) (w : List ℕ) → modes h.mode ≡ true → sdm_on (front_bytes h ++ w) ≡ h.sdm
+unfolding front_bytes sdm_on
 front-sdm h w e = sdm_read h.mode h.sdm (mode_small h.mode e)
 
 head_on : (h : Head) (w : List ℕ) → h.sdm ≡ true → modes h.mode ≡ true → rights h ≡ true → sdm_rights h ≡ true
-    → head_of (front_bytes_lem h ++ (sdm_bytes h ++ w)) ≡ h
-unfolding front_bytes_lem sdm_bytes front_of
+    → head_of (front_bytes h ++ (sdm_bytes h ++ w)) ≡ h
+unfolding front_bytes sdm_bytes front_of
 head_on h w o m r q =
-    let s : List ℕ = front_bytes_lem h ++ (sdm_bytes h ++ w) in
+    let s : List ℕ = front_bytes h ++ (sdm_bytes h ++ w) in
     let t = front-sdm h (sdm_bytes h ++ w) m in
     let f = rights_small h r in
     let g = sdm_small h q in
-    let x = on_byte (front_bytes_lem h ++ (sdm_bytes h ++ w)) in
+    let x = on_byte (front_bytes h ++ (sdm_bytes h ++ w)) in
     let y = t ∙ o in
-    head_front (front_bytes_lem h ++ (sdm_bytes h ++ w))
+    head_front (front_bytes h ++ (sdm_bytes h ++ w))
     ∙ rw (
       x 3 y,
       x 4 y,
@@ -238,18 +238,18 @@ pub zero_byte : (s : List ℕ) (i : ℕ) → sdm_on s ≡ false → sdm_byte s i
 unfolding sdm_byte
 zero_byte s i e = ap (λ t. pick t (byte_at s i) 0) e
 
-pub front-sdm_alone : (h : Head) → modes h.mode ≡ true → sdm_on (front_bytes_lem h) ≡ h.sdm
-unfolding front_bytes_lem sdm_on
+pub front-sdm_alone : (h : Head) → modes h.mode ≡ true → sdm_on (front_bytes h) ≡ h.sdm
+unfolding front_bytes sdm_on
 front-sdm_alone h e = sdm_read h.mode h.sdm (mode_small h.mode e)
 
-head_off : (h : Head) → h.sdm ≡ false → modes h.mode ≡ true → rights h ≡ true → Off h → head_of (front_bytes_lem h) ≡ h
-unfolding front_bytes_lem front_of
+head_off : (h : Head) → h.sdm ≡ false → modes h.mode ≡ true → rights h ≡ true → Off h → head_of (front_bytes h) ≡ h
+unfolding front_bytes front_of
 head_off h o m r a =
     let t = front-sdm_alone h m in
     let f = rights_small h r in
-    let x = zero_byte (front_bytes_lem h) in
+    let x = zero_byte (front_bytes h) in
     let y = t ∙ o in
-    head_front (front_bytes_lem h)
+    head_front (front_bytes h)
     ∙ rw (
       x 3 y,
       x 4 y,
@@ -284,30 +284,30 @@ none_present : (h : Head) → Absent h → any_of (present h) ≡ false
 unfolding present any_of
 none_present h a = rw (a.uid, a.counter, a.picc, a.mac, a.enc, a.limit) refl
 
-none_fields : (ps : List Bool) (vs s : List ℕ) (i : ℕ) → any_of ps ≡ false → length ps ≡ length vs → fields_fit_lem ps vs ≡ true → fields s i ps ≡ vs
-unfolding any_of fields fields_fit_lem field_fits
+none_fields : (ps : List Bool) (vs s : List ℕ) (i : ℕ) → any_of ps ≡ false → length ps ≡ length vs → fields_fit ps vs ≡ true → fields s i ps ≡ vs
+unfolding any_of fields fields_fit field_fits
 none_fields [] [] s i a m f = refl
 none_fields [] (v ∷ vs) s i a m f = absurd (omega arith)
 none_fields (p ∷ ps) [] s i a m f = absurd (omega arith)
 none_fields (true ∷ ps) (v ∷ vs) s i a m f = let z : ◌≡◌ {A = ℕ} 0 1 = cc in absurd (omega arith)
 none_fields (false ∷ ps) (v ∷ vs) s i a m f =
-    ap₂ (λ x y. x ∷ y) (sym (eqb-true v 0 (and_left (eqb v 0) (fields_fit_lem ps vs) f)))
-    (none_fields ps vs s (i + 0) a (omega arith) (and_right (eqb v 0) (fields_fit_lem ps vs) f))
+    ap₂ (λ x y. x ∷ y) (sym (eqb-true v 0 (and_left (eqb v 0) (fields_fit ps vs) f)))
+    (none_fields ps vs s (i + 0) a (omega arith) (and_right (eqb v 0) (fields_fit ps vs) f))
 
-six : (h : Head) → length (front_bytes_lem h ++ sdm_bytes h) ≡ 6
-unfolding front_bytes_lem sdm_bytes
+six : (h : Head) → length (front_bytes h ++ sdm_bytes h) ≡ 6
+unfolding front_bytes sdm_bytes
 six h = refl
 
-places_on : (h : Head) (p : Places) → fields_fit_lem (present h) (listed p) ≡ true
-    → places_in (front_bytes_lem h ++ (sdm_bytes h ++ written (present h) (listed p))) h ≡ p
+places_on : (h : Head) (p : Places) → fields_fit (present h) (listed p) ≡ true
+    → places_in (front_bytes h ++ (sdm_bytes h ++ written (present h) (listed p))) h ≡ p
 unfolding places_in
 places_on h p f =
     ap places_of
-    (ap (λ s. fields s 6 (present h)) (sym (append_assoc (front_bytes_lem h) (sdm_bytes h) (written (present h) (listed p))))
-    ∙ fields-written (present h) (listed p) (front_bytes_lem h ++ sdm_bytes h) 6 (six h) (same_number h p) f)
+    (ap (λ s. fields s 6 (present h)) (sym (append_assoc (front_bytes h) (sdm_bytes h) (written (present h) (listed p))))
+    ∙ fields-written (present h) (listed p) (front_bytes h ++ sdm_bytes h) 6 (six h) (same_number h p) f)
     ∙ places_listed p
 
-places_off : (h : Head) (p : Places) (s : List ℕ) → Absent h → fields_fit_lem (present h) (listed p) ≡ true → places_in s h ≡ p
+places_off : (h : Head) (p : Places) (s : List ℕ) → Absent h → fields_fit (present h) (listed p) ≡ true → places_in s h ≡ p
 unfolding places_in
 places_off h p s a f =
     ap places_of (none_fields (present h) (listed p) s 6 (none_present h a) (same_number h p) f) ∙ places_listed p
@@ -319,7 +319,7 @@ pub record Whole (r : Settings) (s : List ℕ) : Type 0 where
   pub places : places_in s r.head ≡ r.places
 
 pub whole_on : (n : ℕ) (r : Settings) → meets n r ≡ true → r.head.sdm ≡ true
-    → Whole r (front_bytes_lem r.head ++ (sdm_bytes r.head ++ written (present r.head) (listed r.places)))
+    → Whole r (front_bytes r.head ++ (sdm_bytes r.head ++ written (present r.head) (listed r.places)))
 whole_on n r e o =
     let m = meets-parts n r e in
     record {
@@ -337,14 +337,14 @@ pub part_on : (n : ℕ) (r : Settings) → meets n r ≡ true → r.head.sdm ≡
 unfolding sdm_part
 part_on n r e o = sym (ap (λ t. pick t (sdm_meets r) (sdm_absent r.head)) o) ∙ (meets-parts n r e).part
 
-pub whole_off : (n : ℕ) (r : Settings) → meets n r ≡ true → r.head.sdm ≡ false → Whole r (front_bytes_lem r.head)
+pub whole_off : (n : ℕ) (r : Settings) → meets n r ≡ true → r.head.sdm ≡ false → Whole r (front_bytes r.head)
 whole_off n r e o =
     let m = meets-parts n r e in
     let a = part_off n r e o in
     record {
       is = string_off r o;
       head = head_off r.head o m.mode m.conditions a;
-      places = places_off r.head r.places (front_bytes_lem r.head) (off_present r.head o a) m.fits;
+      places = places_off r.head r.places (front_bytes r.head) (off_present r.head o a) m.fits;
     }
 
 whole_read : (r : Settings) (s : List ℕ) → Whole r s → read_of (string_of r) ≡ r

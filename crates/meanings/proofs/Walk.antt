@@ -13,7 +13,7 @@ use Rattle.base.specs.Bytes.{byte_at, AllBytes, number, low}
 use Rattle.base.proofs.Bytes.{and_left, and_right}
 use Rattle.base.proofs.Numbers.{number-low, low-number, low-length}
 use Rattle.fields.specs.Fields.{after, three, fields, ends, written}
-use Rattle.rules.specs.Rules.{field_fits, fields_fit_lem}
+use Rattle.rules.specs.Rules.{field_fits, fields_fit}
 
 -- ---- reading what was written
 three_at : (pre rest : List ℕ) (v : ℕ) → v < 256 ^ 3 → three (pre ++ (low 3 v ++ rest)) (length pre) ≡ v
@@ -24,21 +24,21 @@ three_at pre rest v h =
     let c = get_or-append-add pre (low 3 v ++ rest) 2 0 in
     rw (a, b, c) (number-low 3 v h)
 
-pub fields-written : (ps : List Bool) (vs pre : List ℕ) (i : ℕ) → length pre ≡ i → length ps ≡ length vs → fields_fit_lem ps vs ≡ true
+pub fields-written : (ps : List Bool) (vs pre : List ℕ) (i : ℕ) → length pre ≡ i → length ps ≡ length vs → fields_fit ps vs ≡ true
     → fields (pre ++ written ps vs) i ps ≡ vs
-unfolding fields written fields_fit_lem field_fits
+unfolding fields written fields_fit field_fits
 fields-written [] [] pre i l m f = refl
 fields-written [] (v ∷ vs) pre i l m f = absurd (omega arith)
 fields-written (p ∷ ps) [] pre i l m f = absurd (omega arith)
 fields-written (true ∷ ps) (v ∷ vs) pre i l m f =
-    let h : v < 256 ^ 3 = ltb-true _ _ (and_left (ltb v (256 ^ 3)) (fields_fit_lem ps vs) f) in
+    let h : v < 256 ^ 3 = ltb-true _ _ (and_left (ltb v (256 ^ 3)) (fields_fit ps vs) f) in
     let k : length (pre ++ low 3 v) ≡ i + 3 = length-append pre (low 3 v) ∙ ap₂ (λ x y. x + y) l (low-length 3 v) in
     ap₂ (λ x y. x ∷ y) (ap (λ n. three (pre ++ (low 3 v ++ written ps vs)) n) (sym l) ∙ three_at pre (written ps vs) v h)
     (ap (λ s. fields s (i + 3) ps) (sym (append_assoc pre (low 3 v) (written ps vs)))
-    ∙ fields-written ps vs (pre ++ low 3 v) (i + 3) k (omega arith) (and_right (ltb v (256 ^ 3)) (fields_fit_lem ps vs) f))
+    ∙ fields-written ps vs (pre ++ low 3 v) (i + 3) k (omega arith) (and_right (ltb v (256 ^ 3)) (fields_fit ps vs) f))
 fields-written (false ∷ ps) (v ∷ vs) pre i l m f =
-    ap₂ (λ x y. x ∷ y) (sym (eqb-true v 0 (and_left (eqb v 0) (fields_fit_lem ps vs) f)))
-    (fields-written ps vs pre (i + 0) (l ∙ sym (add-zero i)) (omega arith) (and_right (eqb v 0) (fields_fit_lem ps vs) f))
+    ap₂ (λ x y. x ∷ y) (sym (eqb-true v 0 (and_left (eqb v 0) (fields_fit ps vs) f)))
+    (fields-written ps vs pre (i + 0) (l ∙ sym (add-zero i)) (omega arith) (and_right (eqb v 0) (fields_fit ps vs) f))
 
 pub written-length : (ps : List Bool) (vs : List ℕ) (i : ℕ) → length ps ≡ length vs → i + length (written ps vs) ≡ ends i ps
 unfolding ends written
@@ -92,8 +92,8 @@ three_small : (s : List ℕ) (i : ℕ) → AllBytes s → three s i < 256 ^ 3
 unfolding three number AllBytes
 three_small s i b = omega (arith, b i, b (i + 1), b (i + 2))
 
-pub fields_fit_lem : (ps : List Bool) (s : List ℕ) (i : ℕ) → AllBytes s → fields_fit_lem ps (fields s i ps) ≡ true
-unfolding fields fields_fit_lem field_fits
+pub fields_fit_lem : (ps : List Bool) (s : List ℕ) (i : ℕ) → AllBytes s → fields_fit ps (fields s i ps) ≡ true
+unfolding fields fields_fit field_fits
 fields_fit_lem [] s i b = refl
 fields_fit_lem (true ∷ ps) s i b = rw (lt-ltb (three s i) (256 ^ 3) (three_small s i b)) (fields_fit_lem ps s (i + 3) b)
 fields_fit_lem (false ∷ ps) s i b = fields_fit_lem ps s (i + 0) b

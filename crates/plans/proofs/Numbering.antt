@@ -19,19 +19,19 @@ use Rattle.plans.specs.declared.parts.Digits.{Digits}
 use Rattle.plans.specs.declared.parts.Digits.TheVariants.{Fine, Wrong}
 use Rattle.plans.specs.Plan.{stray_in, as_digits, digits_of, slash, front, back, drawn_by, given_by, meaning_of, bad_line, plain_line, expecting_by}
 use Rattle.plans.specs.Plan.{equals, asked, awaited, line_of, line_command, line_random, line_expected}
-use Rattle.plans.specs.Numbers.{reason_number, meaning_number, digits_number_lem, decoded_case, digits_case, unless_wrong, meaning_case, expecting_case, line_case, Means}
+use Rattle.plans.specs.Numbers.{reason_number, meaning_number, digits_number, decoded_case, digits_case, unless_wrong, meaning_case, expecting_case, line_case, Means}
 
 -- ---- digits
 digits_by : (none stray : Bool) (d : Decoded)
-    → digits_number_lem (pick none (Wrong NoCommand) (pick stray (Wrong Stray) (as_digits d))) ≡ pick none 1 (pick stray 2 (decoded_case d))
-unfolding digits_number_lem reason_number
+    → digits_number (pick none (Wrong NoCommand) (pick stray (Wrong Stray) (as_digits d))) ≡ pick none 1 (pick stray 2 (decoded_case d))
+unfolding digits_number reason_number
 digits_by true stray d = refl
 digits_by false true d = refl
 digits_by false false (Bytes n) = refl
 digits_by false false NotHex = refl
 digits_by false false RoomTooSmall = refl
 
-digits_number_lem : (s room : List ℕ) → digits_number_lem (digits_of s room) ≡ digits_case s room
+digits_number_lem : (s room : List ℕ) → digits_number (digits_of s room) ≡ digits_case s room
 unfolding digits_of digits_case
 digits_number_lem s room = digits_by (eqb (length s) 0) (stray_in s) (decoded s room)
 
@@ -45,13 +45,13 @@ wrong_number TooLong n = refl
 wrong_number BadRandom n = refl
 wrong_number BadExpected n = refl
 
-drawn_number : (d : Digits) → meaning_number (drawn_by d) ≡ unless_wrong (digits_number_lem d) 1
-unfolding meaning_number digits_number_lem
+drawn_number : (d : Digits) → meaning_number (drawn_by d) ≡ unless_wrong (digits_number d) 1
+unfolding meaning_number digits_number
 drawn_number (Fine n) = refl
 drawn_number (Wrong r) = wrong_number r 1
 
-given-number : (good : Bool) (d : Digits) → meaning_number (given_by good d) ≡ unless_wrong (digits_number_lem d) (pick good 2 15)
-unfolding meaning_number digits_number_lem reason_number
+given-number : (good : Bool) (d : Digits) → meaning_number (given_by good d) ≡ unless_wrong (digits_number d) (pick good 2 15)
+unfolding meaning_number digits_number reason_number
 given-number true (Fine n) = refl
 given-number false (Fine n) = refl
 given-number good (Wrong r) = wrong_number r (pick good 2 15)
@@ -91,10 +91,10 @@ unmet-number TooLong m = refl
 unmet-number BadRandom m = refl
 unmet-number BadExpected m = refl
 
-expecting_number : (m : Meaning) (d : Digits) → meaning_number (expecting_by m d).meaning ≡ expecting_case (meaning_number m) (digits_number_lem d)
-unfolding expecting_by expecting_case meaning_number digits_number_lem reason_number
+expecting_number : (m : Meaning) (d : Digits) → meaning_number (expecting_by m d).meaning ≡ expecting_case (meaning_number m) (digits_number d)
+unfolding expecting_by expecting_case meaning_number digits_number reason_number
 expecting_number Blank d = refl
-expecting_number (Bad r) d = bad_number r (digits_number_lem d)
+expecting_number (Bad r) d = bad_number r (digits_number d)
 expecting_number (Drawn n) (Fine k) = refl
 expecting_number (Drawn n) (Wrong r) = unmet-number r 1
 expecting_number (Given n) (Fine k) = refl

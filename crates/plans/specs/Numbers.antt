@@ -31,9 +31,9 @@ meaning_number (Given n) = 2
 meaning_number (Bad r) = 10 + reason_number r
 
 -- a text of digits: 0, or its reason's number
-unfoldable pub digits_number_lem : Digits → ℕ
-digits_number_lem (Fine n) = 0
-digits_number_lem (Wrong r) = reason_number r
+unfoldable pub digits_number : Digits → ℕ
+digits_number (Fine n) = 0
+digits_number (Wrong r) = reason_number r
 
 -- ---- the number of each case, from the characters
 -- digits: 1 there are none, 2 one is none, 3 an odd number of them, 4 more than the room takes

@@ -1,7 +1,7 @@
 // The characters of a line: those that count, the digits among them, and what they mean.
 ghost use Rattle.std.specs.Prelude.{◌≡◌, length};
 ghost use Rattle.first_lines.specs.Said.{good_bytes, bytes_room};
-ghost use Rattle.plans.specs.Numbers.{digits_number_lem, digits_case};
+ghost use Rattle.plans.specs.Numbers.{digits_number, digits_case};
 ghost use Rattle.plans.specs.Plan.{stray_in, digits_of, digits_room};
 ghost use Rattle.plans.specs.Plan.{given_by, drawn_by, meaning_of, command_room, random_room, bad_line, wanted_by, expecting_by};
 ghost use Rattle.plans.specs.Plan.{line_of, line_command, line_random, line_expected};
@@ -34,7 +34,7 @@ fn stray(s: &[u8]) -> bool
 fn command_bytes(s: &[u8], room: &mut [u8]) -> Digits
     ensures answer { result ≡ digits_of s.now room.old }
     ensures left { room.new ≡ digits_room s.now room.old }
-    ensures number { digits_number_lem result ≡ digits_case s.now room.old }
+    ensures number { digits_number result ≡ digits_case s.now room.old }
 {
     if s.len() == 0 {
         return Digits::Wrong(Reason::NoCommand);
