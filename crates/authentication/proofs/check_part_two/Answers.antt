@@ -5,7 +5,7 @@ use lib.ListN.{length, take, length-take}
 use borrow.Author.Tests.{ne_eqb}
 use Rattle.base.proofs.Bytes.{laid-whole}
 use Rattle.authentication.specs.Authentication.{zeros, part_two, proof_of, proof_cost}
-use Rattle.authentication.proofs.PartTwos.{part_right, part_wrong}
+use Rattle.authentication.proofs.PartTwos.{part_right_lem, part_wrong}
 use borrow.Author.Rules.{rules}
 use borrow.Author.Rules.{rules}
 use Rattle.authentication.proofs.check_part_two.Goals as goal
@@ -31,7 +31,7 @@ returns-then-alike c =
     let q = c.turn-t in
     let a = c.args in
     let m : length d ≡ 32 = search rules in
-    part_right a.kx a.b a.x.now d q.result _ c.if-x-ne32.false m (ap (λ x. x.bytes) p) (ap (λ x. x.cost) p) q.ensures _
+    part_right_lem a.kx a.b a.x.now d q.result _ c.if-x-ne32.false m (ap (λ x. x.bytes) p) (ap (λ x. x.cost) p) q.ensures _
     (sym c.alike.ensures ∙ c.if-alike.true)
     (c.put.ensures ∙ laid-whole (take 16 d) (zeros 16) (simp length-take (omega arith)))
 

@@ -16,11 +16,11 @@ pub returns : goal.returns
 unfolding first_reply
 returns c =
     let a = c.args in
-    let l : length a.t2 ≡ 4 = search rules in
-    let m : length a.t4 ≡ 6 = search rules in
+    let l : length a.ti ≡ 4 = search rules in
+    let m : length a.cap ≡ 6 = search rules in
     let n : length c.turn-t.result ≡ 16 = search rules in
     c.encipher_two.ensures ∙ ap (λ x. paired (enciphered a.kx x) (cbc_cost 32))
-    (full (also (also (also (also (none _) a.t2 4 (omega arith) (omega arith) c.put.ensures)
+    (full (also (also (also (also (none _) a.ti 4 (omega arith) (omega arith) c.put.ensures)
     c.turn-t.result 20 (omega arith) (omega arith)
-    c.put-2.ensures) (zeros 6) 26 (omega arith) (omega arith) c.put-3.ensures) a.t4 32 (omega arith) (omega arith)
-    c.put-4.ensures) (omega arith) ∙ ap (λ t. a.t2 ++ t ++ zeros 6 ++ a.t4) c.turn-t.ensures)
+    c.put-2.ensures) (zeros 6) 26 (omega arith) (omega arith) c.put-3.ensures) a.cap 32 (omega arith) (omega arith)
+    c.put-4.ensures) (omega arith) ∙ ap (λ t. a.ti ++ t ++ zeros 6 ++ a.cap) c.turn-t.ensures)
