@@ -3,7 +3,6 @@ ghost use Rattle.std.specs.Prelude.{◌≡◌, ◌≤◌, true, false, length};
 ghost use Rattle.base.specs.Bytes.{same};
 ghost use Rattle.base.specs.Decide.{pick};
 
-use libc::STDOUT_FILENO;
 use lines::Decoded;
 
 // Where the word or the line that begins at a place ends.
@@ -59,41 +58,41 @@ fn bytes(text: &[u8], room: &mut [u8]) -> usize {
 }
 
 // Prints a line's name and what we have to say of it.
-pub fn differs(line: &[u8], what: &[u8]) -> bool
+pub fn differs(rt: &impl Print, line: &[u8], what: &[u8]) -> bool
     ensures { result ≡ false }
 {
     let a = start(line, 1);
     let e = end(line, a, b' ');
-    io::write_all(STDOUT_FILENO, &line[a..e]);
-    io::write_all(STDOUT_FILENO, b": ");
-    io::write_all(STDOUT_FILENO, what);
-    io::write_all(STDOUT_FILENO, b"\n");
+    let _ = rt.write_all(&line[a..e]);
+    let _ = rt.write_all(b": ");
+    let _ = rt.write_all(what);
+    let _ = rt.write_all(b"\n");
     false
 }
 
 // Whether ours is what the line expects; else ours is printed.
-fn compared(line: &[u8], expected: &[u8], ours: &[u8]) -> bool
+fn compared(rt: &impl Print, line: &[u8], expected: &[u8], ours: &[u8]) -> bool
     ensures { result ≡ same expected.now ours.now }
 {
     if base::alike(expected, ours) {
         return true;
     }
-    differs(line, ours)
+    differs(rt, line, ours)
 }
 
 // The same with a word of the line.
-pub fn compared_word(line: &[u8], k: usize, ours: &[u8]) -> bool {
+pub fn compared_word(rt: &impl Print, line: &[u8], k: usize, ours: &[u8]) -> bool {
     let a = start(line, k);
     let e = end(line, a, b' ');
-    compared(line, &line[a..e], ours)
+    compared(rt, line, &line[a..e], ours)
 }
 
 // Whether ours is not what the line has; else that is said.
-pub fn unlike(line: &[u8], theirs: &[u8], ours: &[u8]) -> bool
+pub fn unlike(rt: &impl Print, line: &[u8], theirs: &[u8], ours: &[u8]) -> bool
     ensures { result ≡ pick (same theirs.now ours.now) false true }
 {
     if base::alike(theirs, ours) {
-        return differs(line, b"the tag matches");
+        return differs(rt, line, b"the tag matches");
     }
     true
 }

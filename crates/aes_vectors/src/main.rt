@@ -6,8 +6,6 @@
 mod line_words;
 mod run;
 
-use libc::STDOUT_FILENO;
-
 // The kind of a line, as the place where it is counted, 7 for none of these; all are counted at 0, those that differ at 1.
 fn kind_of(line: &[u8]) -> usize {
     if line_words::is(line, 0, b"KEYS") {
@@ -28,25 +26,25 @@ fn kind_of(line: &[u8]) -> usize {
     7
 }
 
-fn agrees_under(w: &[[u8; 16]; 11], kind: usize, line: &[u8]) -> bool {
+fn agrees_under(rt: &impl Print, w: &[[u8; 16]; 11], kind: usize, line: &[u8]) -> bool {
     match kind {
-        2 => run::keys(w, line),
-        3 => run::ecb(w, line),
-        4 => run::cbc(w, line),
-        5 => run::cmac(w, line, true),
-        6 => run::cmac(w, line, false),
-        _ => line_words::differs(line, b"no such kind"),
+        2 => run::keys(rt, w, line),
+        3 => run::ecb(rt, w, line),
+        4 => run::cbc(rt, w, line),
+        5 => run::cmac(rt, w, line, true),
+        6 => run::cmac(rt, w, line, false),
+        _ => line_words::differs(rt, line, b"no such kind"),
     }
 }
 
 // Whether a vector agrees.
-fn agrees(kind: usize, line: &[u8]) -> bool {
+fn agrees(rt: &impl Print, kind: usize, line: &[u8]) -> bool {
     let mut key = [0u8; 16];
     if line_words::field(line, 2, &mut key) != 16 {
-        return line_words::differs(line, b"no key");
+        return line_words::differs(rt, line, b"no key");
     }
     let w = key_expansion::expand(key);
-    agrees_under(&w, kind, line)
+    agrees_under(rt, &w, kind, line)
 }
 
 // One more at a place.
@@ -58,7 +56,7 @@ fn more(n: [u64; 8], i: usize) -> [u64; 8] {
 }
 
 // A line run and counted; comments and empty lines are not.
-fn counted(n: [u64; 8], line: &[u8]) -> [u64; 8] {
+fn counted(rt: &impl Print, n: [u64; 8], line: &[u8]) -> [u64; 8] {
     let first = base::at(line, 0);
     if first == 0 {
         return n;
@@ -68,55 +66,56 @@ fn counted(n: [u64; 8], line: &[u8]) -> [u64; 8] {
     }
     let kind = kind_of(line);
     let m = more(more(n, 0), kind);
-    if agrees(kind, line) {
+    if agrees(rt, kind, line) {
         return m;
     }
     more(m, 1)
 }
 
-fn print_count(name: &[u8], n: u64) {
-    io::write_all(STDOUT_FILENO, name);
-    io::print_decimal(STDOUT_FILENO, n);
-    io::write_all(STDOUT_FILENO, b"\n");
+fn print_count(rt: &impl Print, name: &[u8], n: u64) {
+    let _ = rt.write_all(name);
+    let _ = rt.print(n);
+    let _ = rt.write_all(b"\n");
 }
 
-fn print_kinds(n: [u64; 8]) {
-    print_count(b"KEYS ", n[2]);
-    print_count(b"ECB ", n[3]);
-    print_count(b"CBC ", n[4]);
-    print_count(b"CMAC ", n[5]);
-    print_count(b"CMACBAD ", n[6]);
+fn print_kinds(rt: &impl Print, n: [u64; 8]) {
+    print_count(rt, b"KEYS ", n[2]);
+    print_count(rt, b"ECB ", n[3]);
+    print_count(rt, b"CBC ", n[4]);
+    print_count(rt, b"CMAC ", n[5]);
+    print_count(rt, b"CMACBAD ", n[6]);
 }
 
-fn print_totals(n: [u64; 8]) {
-    print_kinds(n);
-    io::print_decimal(STDOUT_FILENO, n[0]);
-    io::write_all(STDOUT_FILENO, b" vectors, ");
-    io::print_decimal(STDOUT_FILENO, n[1]);
-    io::write_all(STDOUT_FILENO, b" differ\n");
+fn print_totals(rt: &impl Print, n: [u64; 8]) {
+    print_kinds(rt, n);
+    let _ = rt.print(n[0]);
+    let _ = rt.write_all(b" vectors, ");
+    let _ = rt.print(n[1]);
+    let _ = rt.write_all(b" differ\n");
 }
 
-fn run_all(text: &[u8]) {
+fn run_all(rt: &impl Print, text: &[u8]) {
     let mut n = [0u64; 8];
     let mut at = 0;
     while at < text.len() {
         let end = line_words::end(text, at, b'\n');
-        let m = counted(n, &text[at..end]);
+        let m = counted(rt, n, &text[at..end]);
         n = m;
         at = end + 1;
     }
-    print_totals(n);
+    print_totals(rt, n);
 }
 
 // What is read fits into the room.
-fn read_into(room: &mut [u8]) {
-    let n = io::read_full(0, room);
+fn read_into(rt: &(impl Input + Print), room: &mut [u8]) {
+    let mut input = rt.reader();
+    let n = reading::read_full(&mut input, room);
     if n <= room.len() {
-        run_all(&room[..n]);
+        run_all(rt, &room[..n]);
     }
 }
 
-fn main() {
+fn main(rt: HostRuntime) {
     let mut text = [0u8; 262144];
-    read_into(&mut text);
+    read_into(&rt, &mut text);
 }

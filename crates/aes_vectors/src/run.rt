@@ -2,18 +2,18 @@
 use crate::line_words;
 
 // Whether bytes of ours are a word of the line; else they are printed.
-fn same(line: &[u8], k: usize, ours: &[u8]) -> bool {
+fn same(rt: &impl Print, line: &[u8], k: usize, ours: &[u8]) -> bool {
     let mut room = [0u8; 512];
     lines::encode(ours, &mut room);
-    same_front(line, k, &room, ours.len())
+    same_front(rt, line, k, &room, ours.len())
 }
 
 // The same of the digits of n bytes, at the front of a room.
-fn same_front(line: &[u8], k: usize, room: &[u8], n: usize) -> bool {
+fn same_front(rt: &impl Print, line: &[u8], k: usize, room: &[u8], n: usize) -> bool {
     if room.len() / 2 < n {
-        return line_words::differs(line, b"too long");
+        return line_words::differs(rt, line, b"too long");
     }
-    line_words::compared_word(line, k, &room[..n * 2])
+    line_words::compared_word(rt, line, k, &room[..n * 2])
 }
 
 fn lay_one(k: [u8; 16], room: &mut [u8], at: usize) {
@@ -30,10 +30,10 @@ fn lay(w: &[[u8; 16]; 11], room: &mut [u8]) {
     }
 }
 
-pub fn keys(w: &[[u8; 16]; 11], line: &[u8]) -> bool {
+pub fn keys(rt: &impl Print, w: &[[u8; 16]; 11], line: &[u8]) -> bool {
     let mut room = [0u8; 176];
     lay(w, &mut room);
-    same(line, 3, &room)
+    same(rt, line, 3, &room)
 }
 
 // One block, or one block back.
@@ -86,23 +86,44 @@ fn through(w: &[[u8; 16]; 11], way: Way, buf: &mut [u8]) {
 }
 
 // Whether a buffer comes out as a word of the line.
-fn comes_out(w: &[[u8; 16]; 11], way: Way, line: &[u8], buf: &mut [u8], to: usize) -> bool {
+fn comes_out(
+    rt: &impl Print,
+    w: &[[u8; 16]; 11],
+    way: Way,
+    line: &[u8],
+    buf: &mut [u8],
+    to: usize,
+) -> bool {
     through(w, way, buf);
-    same(line, to, buf)
+    same(rt, line, to, buf)
 }
 
 // Whether one word of the line gives another.
-fn gives(w: &[[u8; 16]; 11], way: Way, line: &[u8], from: usize, to: usize) -> bool {
+fn gives(
+    rt: &impl Print,
+    w: &[[u8; 16]; 11],
+    way: Way,
+    line: &[u8],
+    from: usize,
+    to: usize,
+) -> bool {
     let mut room = [0u8; 256];
     let n = line_words::field(line, from, &mut room);
     if room.len() < n {
-        return line_words::differs(line, b"no digits");
+        return line_words::differs(rt, line, b"no digits");
     }
-    comes_out(w, way, line, &mut room[..n], to)
+    comes_out(rt, w, way, line, &mut room[..n], to)
 }
 
 // Both ways, from the word of the plain text to the one behind it.
-fn ciphers(w: &[[u8; 16]; 11], chained: bool, iv: [u8; 16], line: &[u8], plain: usize) -> bool {
+fn ciphers(
+    rt: &impl Print,
+    w: &[[u8; 16]; 11],
+    chained: bool,
+    iv: [u8; 16],
+    line: &[u8],
+    plain: usize,
+) -> bool {
     let there = Way {
         chained,
         back: false,
@@ -114,48 +135,54 @@ fn ciphers(w: &[[u8; 16]; 11], chained: bool, iv: [u8; 16], line: &[u8], plain: 
         iv,
     };
     let cipher = plain % 8 + 1;
-    if gives(w, there, line, plain, cipher) {
-        return gives(w, back, line, cipher, plain);
+    if gives(rt, w, there, line, plain, cipher) {
+        return gives(rt, w, back, line, cipher, plain);
     }
     false
 }
 
-pub fn ecb(w: &[[u8; 16]; 11], line: &[u8]) -> bool {
-    ciphers(w, false, [0u8; 16], line, 3)
+pub fn ecb(rt: &impl Print, w: &[[u8; 16]; 11], line: &[u8]) -> bool {
+    ciphers(rt, w, false, [0u8; 16], line, 3)
 }
 
-pub fn cbc(w: &[[u8; 16]; 11], line: &[u8]) -> bool {
+pub fn cbc(rt: &impl Print, w: &[[u8; 16]; 11], line: &[u8]) -> bool {
     let mut iv = [0u8; 16];
     if line_words::field(line, 3, &mut iv) != 16 {
-        return line_words::differs(line, b"no initial vector");
+        return line_words::differs(rt, line, b"no initial vector");
     }
-    ciphers(w, true, iv, line, 4)
+    ciphers(rt, w, true, iv, line, 4)
 }
 
 // The tag of a message is not the line's.
-fn tag_is_not(tag: [u8; 16], line: &[u8]) -> bool {
+fn tag_is_not(rt: &impl Print, tag: [u8; 16], line: &[u8]) -> bool {
     let mut theirs = [0u8; 16];
     if line_words::field(line, 4, &mut theirs) != 16 {
-        return line_words::differs(line, b"no tag");
+        return line_words::differs(rt, line, b"no tag");
     }
-    line_words::unlike(line, &theirs, &tag)
+    line_words::unlike(rt, line, &theirs, &tag)
 }
 
 // The tag of a message is the line's, or, where it must not be, is not.
-fn tag_agrees(w: &[[u8; 16]; 11], line: &[u8], message: &[u8], good: bool) -> bool {
+fn tag_agrees(
+    rt: &impl Print,
+    w: &[[u8; 16]; 11],
+    line: &[u8],
+    message: &[u8],
+    good: bool,
+) -> bool {
     let made = cmac::cmac_of(w, message);
     let tag = made.bytes;
     if good {
-        return same(line, 4, &tag);
+        return same(rt, line, 4, &tag);
     }
-    tag_is_not(tag, line)
+    tag_is_not(rt, tag, line)
 }
 
-pub fn cmac(w: &[[u8; 16]; 11], line: &[u8], good: bool) -> bool {
+pub fn cmac(rt: &impl Print, w: &[[u8; 16]; 11], line: &[u8], good: bool) -> bool {
     let mut room = [0u8; 256];
     let n = line_words::field(line, 3, &mut room);
     if room.len() < n {
-        return line_words::differs(line, b"no digits");
+        return line_words::differs(rt, line, b"no digits");
     }
-    tag_agrees(w, line, &room[..n], good)
+    tag_agrees(rt, w, line, &room[..n], good)
 }

@@ -13,7 +13,6 @@ ghost use Rattle.base.specs.Bytes.{same};
 
 use authentication::Proof;
 use closing::Closed;
-use libc::STDOUT_FILENO;
 use messaging::{Mode, Session};
 use opening::Opened;
 use sdm::Tap;
@@ -41,25 +40,25 @@ fn counted(t: Tally, right: bool) -> Tally
 }
 
 // Names a value that differs.
-fn report(name: &[u8], right: bool) {
+fn report(rt: &impl Print, name: &[u8], right: bool) {
     if right {
         return;
     }
-    io::write_all(STDOUT_FILENO, name);
-    io::write_all(STDOUT_FILENO, b" differs\n");
+    let _ = rt.write_all(name);
+    let _ = rt.write_all(b" differs\n");
 }
 
-fn count(t: Tally, name: &[u8], right: bool) -> Tally
+fn count(rt: &impl Print, t: Tally, name: &[u8], right: bool) -> Tally
     ensures { result ≡ counted_of t right }
 {
-    report(name, right);
+    report(rt, name, right);
     counted(t, right)
 }
 
-fn compare(t: Tally, name: &[u8], ours: &[u8], theirs: &[u8]) -> Tally
+fn compare(rt: &impl Print, t: Tally, name: &[u8], ours: &[u8], theirs: &[u8]) -> Tally
     ensures { result ≡ counted_of t (same ours.now theirs.now) }
 {
-    count(t, name, base::alike(ours, theirs))
+    count(rt, t, name, base::alike(ours, theirs))
 }
 
 // Whether a command opens to this plain data, at the front of the room.
@@ -98,34 +97,40 @@ fn is_right(p: Proof) -> bool {
     }
 }
 
-fn compare_block(t: Tally, name: &[u8], ours: [u8; 16], theirs: [u8; 16]) -> Tally {
-    compare(t, name, &ours, &theirs)
+fn compare_block(
+    rt: &impl Print,
+    t: Tally,
+    name: &[u8],
+    ours: [u8; 16],
+    theirs: [u8; 16],
+) -> Tally {
+    compare(rt, t, name, &ours, &theirs)
 }
 
 // Part one of the authentication with key 0, and the check of part two.
-fn first_parts(t: Tally) -> Tally {
+fn first_parts(rt: &impl Print, t: Tally) -> Tally {
     let k = [0u8; 16];
     let one = authentication::part_one(k, mutual::RND_B);
     let got = authentication::check_part_two(k, mutual::RND_B, &mutual::PART_TWO);
     let proof = got.proof;
     let a = got.a;
     let reply = one.bytes;
-    let t1 = compare_block(t, b"E(K0; RndB)", reply, mutual::PART_ONE);
-    let t2 = count(t1, b"check of part two", is_right(proof));
-    compare_block(t2, b"RndA", a, mutual::RND_A)
+    let t1 = compare_block(rt, t, b"E(K0; RndB)", reply, mutual::PART_ONE);
+    let t2 = count(rt, t1, b"check of part two", is_right(proof));
+    compare_block(rt, t2, b"RndA", a, mutual::RND_A)
 }
 
 // The reply of part two, and the session keys.
-fn last_part(t: Tally) -> Tally {
+fn last_part(rt: &impl Print, t: Tally) -> Tally {
     let k = [0u8; 16];
     let reply = authentication::first_reply(k, mutual::TI, mutual::RND_A, [0u8; 6]);
     let bytes = reply.bytes;
-    let t1 = compare(t, b"reply of part two", &bytes, &mutual::PART_TWO_REPLY);
+    let t1 = compare(rt, t, b"reply of part two", &bytes, &mutual::PART_TWO_REPLY);
     let keys = session_keys::session_keys(k, mutual::RND_A, mutual::RND_B);
     let enc = keys.enc;
     let mac = keys.mac;
-    let t2 = compare_block(t1, b"SesAuthENCKey", enc, mutual::ENC_KEY);
-    compare_block(t2, b"SesAuthMACKey", mac, mutual::MAC_KEY)
+    let t2 = compare_block(rt, t1, b"SesAuthENCKey", enc, mutual::ENC_KEY);
+    compare_block(rt, t2, b"SesAuthMACKey", mac, mutual::MAC_KEY)
 }
 
 // The session of the ChangeFileSettings command.
@@ -162,37 +167,52 @@ fn open_changed(s: Session, cmd: u8, x: &[u8], room: &mut [u8]) -> Opened {
 }
 
 // A command in Full opens to its plain data, and with one bit changed its MAC is wrong.
-fn command(t: Tally, name: &[u8], s: Session, cmd: u8, x: &[u8], plain: &[u8]) -> Tally {
+fn command(
+    rt: &impl Print,
+    t: Tally,
+    name: &[u8],
+    s: Session,
+    cmd: u8,
+    x: &[u8],
+    plain: &[u8],
+) -> Tally {
     let mut room = [0u8; 256];
     let o = opening::open(s, Mode::Full, cmd, x, 1, true, &mut room);
     let opened = o.opened;
-    let t1 = count(t, name, gives(opened, &room, plain));
+    let t1 = count(rt, t, name, gives(opened, &room, plain));
     let p = open_changed(s, cmd, x, &mut room);
-    count(t1, name, is_wrong_mac(p))
+    count(rt, t1, name, is_wrong_mac(p))
 }
 
 // A reply with no data in Full is its MAC alone.
-fn reply(t: Tally, name: &[u8], s: Session, theirs: &[u8]) -> Tally {
+fn reply(rt: &impl Print, t: Tally, name: &[u8], s: Session, theirs: &[u8]) -> Tally {
     let mut room = [0u8; 256];
     let c = closing::close(s, Mode::Full, 0, &mut room, 0);
     let closed = c.closed;
     match closed {
         Closed::Reply(n) => {
             if n <= 256 {
-                return compare(t, name, &room[..n], theirs);
+                return compare(rt, t, name, &room[..n], theirs);
             }
-            count(t, name, false)
+            count(rt, t, name, false)
         }
-        Closed::Over => count(t, name, false),
-        Closed::Small => count(t, name, false),
+        Closed::Over => count(rt, t, name, false),
+        Closed::Small => count(rt, t, name, false),
     }
 }
 
-fn change_file_settings(t: Tally) -> Tally {
+fn change_file_settings(rt: &impl Print, t: Tally) -> Tally {
     let v = messaging::command_iv(session(1));
     let iv = v.bytes;
-    let t1 = compare(t, b"IV of the command", &iv, &file_settings::SETTINGS_IV);
+    let t1 = compare(
+        rt,
+        t,
+        b"IV of the command",
+        &iv,
+        &file_settings::SETTINGS_IV,
+    );
     let t2 = command(
+        rt,
         t1,
         b"ChangeFileSettings",
         session(1),
@@ -201,6 +221,7 @@ fn change_file_settings(t: Tally) -> Tally {
         &file_settings::SETTINGS,
     );
     reply(
+        rt,
         t2,
         b"reply of ChangeFileSettings",
         session(2),
@@ -208,10 +229,11 @@ fn change_file_settings(t: Tally) -> Tally {
     )
 }
 
-fn change_key_two(t: Tally) -> Tally {
+fn change_key_two(rt: &impl Print, t: Tally) -> Tally {
     let crc = crc::crc_of(&key_changes::KEY_TWO);
-    let t1 = compare(t, b"CRC", &crc, &key_changes::KEY_TWO_CRC);
+    let t1 = compare(rt, t, b"CRC", &crc, &key_changes::KEY_TWO_CRC);
     let t2 = command(
+        rt,
         t1,
         b"ChangeKey of key 2",
         other_session(2),
@@ -220,6 +242,7 @@ fn change_key_two(t: Tally) -> Tally {
         &key_changes::KEY_TWO_PLAIN,
     );
     reply(
+        rt,
         t2,
         b"reply of ChangeKey",
         other_session(3),
@@ -227,8 +250,9 @@ fn change_key_two(t: Tally) -> Tally {
     )
 }
 
-fn change_key_zero(t: Tally) -> Tally {
+fn change_key_zero(rt: &impl Print, t: Tally) -> Tally {
     command(
+        rt,
         t,
         b"ChangeKey of key 0",
         other_session(3),
@@ -254,10 +278,11 @@ fn tap_one() -> Tap {
     }
 }
 
-fn first_picc_data(t: Tally) -> Tally {
+fn first_picc_data(rt: &impl Print, t: Tally) -> Tally {
     let made = sdm::picc_data([0u8; 16], tap_one(), kept(&tap_values::PADDING_ONE));
     let picc = made.bytes;
     compare(
+        rt,
         t,
         b"PICCData of the first tap",
         &picc,
@@ -265,13 +290,25 @@ fn first_picc_data(t: Tally) -> Tally {
     )
 }
 
-fn first_mac(t: Tally) -> Tally {
+fn first_mac(rt: &impl Print, t: Tally) -> Tally {
     let made = sdm::tap_mac_key([0u8; 16], tap_one());
     let key = made.bytes;
     let code = sdm::tap_mac(key, &[0u8; 0]);
     let mac = code.bytes;
-    let t1 = compare(t, b"SesSDMFileReadMACKey", &key, &tap_values::MAC_KEY_ONE);
-    compare(t1, b"SDMMAC of the first tap", &mac, &tap_values::MAC_ONE)
+    let t1 = compare(
+        rt,
+        t,
+        b"SesSDMFileReadMACKey",
+        &key,
+        &tap_values::MAC_KEY_ONE,
+    );
+    compare(
+        rt,
+        t1,
+        b"SDMMAC of the first tap",
+        &mac,
+        &tap_values::MAC_ONE,
+    )
 }
 
 fn tap_two() -> Tap {
@@ -283,10 +320,11 @@ fn tap_two() -> Tap {
     }
 }
 
-fn second_picc_data(t: Tally) -> Tally {
+fn second_picc_data(rt: &impl Print, t: Tally) -> Tally {
     let made = sdm::picc_data([0u8; 16], tap_two(), kept(&tap_values::PADDING_TWO));
     let picc = made.bytes;
     compare(
+        rt,
         t,
         b"PICCData of the second tap",
         &picc,
@@ -294,41 +332,55 @@ fn second_picc_data(t: Tally) -> Tally {
     )
 }
 
-fn second_file_data(t: Tally) -> Tally {
+fn second_file_data(rt: &impl Print, t: Tally) -> Tally {
     let made = sdm::tap_enc_key([0u8; 16], tap_two());
     let enc = made.bytes;
     let mut text = tap_values::TEXT_TWO;
     let hidden = sdm::tap_encrypt(enc, 8, &mut text);
-    let t1 = count(t, b"length of SDMENCFileData", hidden.whole);
-    compare(t1, b"SDMENCFileData", &text, &tap_values::HIDDEN_TWO)
+    let t1 = count(rt, t, b"length of SDMENCFileData", hidden.whole);
+    compare(rt, t1, b"SDMENCFileData", &text, &tap_values::HIDDEN_TWO)
 }
 
-fn second_mac(t: Tally) -> Tally {
+fn second_mac(rt: &impl Print, t: Tally) -> Tally {
     let made = sdm::tap_mac_key([0u8; 16], tap_two());
     let key = made.bytes;
     let code = sdm::tap_mac(key, &tap_values::INPUT_TWO);
     let mac = code.bytes;
-    compare(t, b"SDMMAC of the second tap", &mac, &tap_values::MAC_TWO)
+    compare(
+        rt,
+        t,
+        b"SDMMAC of the second tap",
+        &mac,
+        &tap_values::MAC_TWO,
+    )
 }
 
 // Another value, a byte less, and nothing.
-fn wrong_values(t: Tally) -> Tally {
+fn wrong_values(rt: &impl Print, t: Tally) -> Tally {
     let key = mutual::ENC_KEY;
-    let t1 = compare(t, b"wrong on purpose: another key", &key, &mutual::MAC_KEY);
-    let t2 = compare(t1, b"wrong on purpose: a byte less", b"CMAC", b"CMA");
-    compare(t2, b"wrong on purpose: no bytes", &key, b"")
+    let t1 = compare(
+        rt,
+        t,
+        b"wrong on purpose: another key",
+        &key,
+        &mutual::MAC_KEY,
+    );
+    let t2 = compare(rt, t1, b"wrong on purpose: a byte less", b"CMAC", b"CMA");
+    compare(rt, t2, b"wrong on purpose: no bytes", &key, b"")
 }
 
 // Statuses other than the one expected, and a MAC of another reply.
-fn wrong_statuses(t: Tally) -> Tally {
+fn wrong_statuses(rt: &impl Print, t: Tally) -> Tally {
     let got = authentication::check_part_two([0u8; 16], mutual::RND_A, &mutual::PART_TWO);
     let proof = got.proof;
     let t1 = count(
+        rt,
         t,
         b"wrong on purpose: part two of another RndB",
         is_right(proof),
     );
     reply(
+        rt,
         t1,
         b"wrong on purpose: reply at another CmdCtr",
         session(1),
@@ -337,8 +389,9 @@ fn wrong_statuses(t: Tally) -> Tally {
 }
 
 // A command whose MAC is of another CmdCtr, one with other plain data, and one cut short, which has no right MAC either.
-fn wrong_commands(t: Tally) -> Tally {
+fn wrong_commands(rt: &impl Print, t: Tally) -> Tally {
     let t1 = command(
+        rt,
         t,
         b"wrong on purpose: command at another CmdCtr",
         other_session(3),
@@ -347,6 +400,7 @@ fn wrong_commands(t: Tally) -> Tally {
         &key_changes::KEY_TWO_PLAIN,
     );
     let t2 = command(
+        rt,
         t1,
         b"wrong on purpose: other plain data",
         other_session(2),
@@ -355,6 +409,7 @@ fn wrong_commands(t: Tally) -> Tally {
         &key_changes::KEY_ZERO_PLAIN,
     );
     command(
+        rt,
         t2,
         b"wrong on purpose: a command cut short",
         session(1),
@@ -364,21 +419,21 @@ fn wrong_commands(t: Tally) -> Tally {
     )
 }
 
-fn main() {
+fn main(rt: HostRuntime) {
     let none = Tally {
         values: 0,
         differ: 0,
     };
-    let t1 = last_part(first_parts(none));
-    let t2 = change_file_settings(t1);
-    let t3 = change_key_zero(change_key_two(t2));
-    let t4 = first_mac(first_picc_data(t3));
-    let t5 = second_mac(second_file_data(second_picc_data(t4)));
-    let t6 = wrong_values(t5);
-    let t7 = wrong_statuses(t6);
-    let t8 = wrong_commands(t7);
-    io::print_decimal(STDOUT_FILENO, t8.values);
-    io::write_all(STDOUT_FILENO, b" values, ");
-    io::print_decimal(STDOUT_FILENO, t8.differ);
-    io::write_all(STDOUT_FILENO, b" differ\n");
+    let t1 = last_part(&rt, first_parts(&rt, none));
+    let t2 = change_file_settings(&rt, t1);
+    let t3 = change_key_zero(&rt, change_key_two(&rt, t2));
+    let t4 = first_mac(&rt, first_picc_data(&rt, t3));
+    let t5 = second_mac(&rt, second_file_data(&rt, second_picc_data(&rt, t4)));
+    let t6 = wrong_values(&rt, t5);
+    let t7 = wrong_statuses(&rt, t6);
+    let t8 = wrong_commands(&rt, t7);
+    let _ = rt.print(t8.values);
+    let _ = rt.write_all(b" values, ");
+    let _ = rt.print(t8.differ);
+    let _ = rt.write_all(b" differ\n");
 }

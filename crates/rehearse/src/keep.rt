@@ -1,39 +1,104 @@
 // A tag that is kept between runs: its image (docs/IMAGE.md) in a file.
-ghost use Rattle.io.specs.Counts.{IsPrefixLen};
+ghost use Rattle.std.specs.Prelude.{◌≡◌, IfOk};
+ghost use Rattle.reading.specs.Counts.{IsPrefixLen};
 
-use libc::STDERR_FILENO;
 use state::Tag;
+use std::fmt::InlineText;
+use std::fs::{self, OpenFile, OpenOptions, Permissions};
+use std::io::{self, Error, ErrorKind, Write};
+use std::os::fd::AsRawFd;
+use std::os::unix::fs::{OpenOptionsExt, PermissionsExt};
+use std::rt::Files;
+use std::str;
 
 // Three texts on standard error.
-pub fn warn(a: &[u8], b: &[u8], c: &[u8]) {
-    io::write_all(STDERR_FILENO, a);
-    io::write_all(STDERR_FILENO, b);
-    io::write_all(STDERR_FILENO, c);
+pub fn warn(err: &impl Print, a: &[u8], b: &[u8], c: &[u8]) {
+    let _ = err.write_all(a);
+    let _ = err.write_all(b);
+    let _ = err.write_all(c);
 }
 
 // Names a file that a run can't start from, and why.
-pub fn refuse(path: &[u8], why: &[u8]) {
-    warn(b"rehearse: ", path, b": ");
-    warn(why, b"; nothing was rehearsed", b"\n");
+pub fn refuse(err: &impl Print, path: &[u8], why: &[u8]) {
+    warn(err, b"rehearse: ", path, b": ");
+    warn(err, why, b"; nothing was rehearsed", b"\n");
 }
 
-// Says by errno what a call on a file failed for, and what follows. It comes just behind that call.
-pub fn fail(path: &[u8], so: &[u8]) {
-    os::fail(path);
-    warn(b"rehearse: ", so, b"\n");
+// Says what a call on a file failed for, and what follows. The text is the C library's, without the error's number behind it.
+pub fn fail(err: &impl Print, path: &[u8], e: Error, so: &[u8]) {
+    let shown = InlineText::<128>::of(e);
+    let whole = shown.as_str();
+    let text = match whole.split_once(" (os error ") {
+        Some((front, _)) => front,
+        None => whole,
+    };
+    warn(err, path, b": ", text.as_bytes());
+    warn(err, b"\nrehearse: ", so, b"\n");
+}
+
+// A path as text: only such a one can be handed to the machine.
+fn text_of(path: &[u8]) -> io::Result<&str>
+    ensures { IfOk result (λ p. p.now ≡ path.now) }
+{
+    match str::from_utf8(path) {
+        Ok(p) => Ok(p),
+        Err(_) => Err(Error::new(ErrorKind::InvalidFilename, "its name is not UTF-8")),
+    }
+}
+
+// Opens a file for reading.
+pub fn opened<R: Files>(rt: &R, path: &[u8]) -> io::Result<R::File> {
+    fs::open(rt, text_of(path)?)
+}
+
+// Makes a file that is not there, for its owner alone, and opens it for writing.
+fn created<R: Files>(rt: &R, name: &[u8]) -> io::Result<R::File> {
+    OpenOptions::new()
+        .write(true)
+        .create_new(true)
+        .mode(0o600)
+        .open(rt, text_of(name)?)
+}
+
+// Opens a file that is there for writing over it.
+fn reopened<R: Files>(rt: &R, path: &[u8]) -> io::Result<R::File> {
+    OpenOptions::new()
+        .read(true)
+        .write(true)
+        .open(rt, text_of(path)?)
+}
+
+fn removed(rt: &impl Files, name: &[u8]) -> io::Result<()> {
+    fs::remove_file(rt, text_of(name)?)
+}
+
+fn moved(rt: &impl Files, name: &[u8], path: &[u8]) -> io::Result<()> {
+    fs::rename(rt, text_of(name)?, text_of(path)?)
+}
+
+fn linked(rt: &impl Files, path: &[u8]) -> io::Result<bool> {
+    let found = fs::symlink_metadata(rt, text_of(path)?)?;
+    Ok(found.is_symlink())
 }
 
 // Whether a path is a symbolic link.
-fn is_link(path: &[u8]) -> bool {
-    let mut p = [0u8; 4096];
-    let mut text = [0u8; 1];
-    base::put(path, &mut p, 0);
-    p[4095] = 0;
-    0 <= libc::readlink(&p, &mut text)
+fn is_link(rt: &impl Files, path: &[u8]) -> bool {
+    match linked(rt, path) {
+        Ok(l) => l,
+        Err(_) => false,
+    }
+}
+
+// What a symbolic link says, at the front of the room, as much as it takes, and its length.
+fn read_link<R: Files + Alloc>(rt: &R, path: &[u8], room: &mut [u8]) -> io::Result<usize>
+    ensures { IfOk result (λ n. IsPrefixLen n room.new) }
+{
+    let to = fs::read_link(rt, text_of(path)?)?;
+    Ok(forms::append(to.as_str().as_bytes(), room, 0))
 }
 
 // The name of an open file, links followed, at the front of the room, and its length; 0 where the machine doesn't tell.
-fn name_of(fd: i32, room: &mut [u8]) -> usize
+fn name_of<R: Files + Alloc>(rt: &R, fd: i32, room: &mut [u8]) -> usize
     ensures { IsPrefixLen result room.new }
 {
     if fd < 0 {
@@ -41,117 +106,137 @@ fn name_of(fd: i32, room: &mut [u8]) -> usize
     }
     let mut p = [0u8; 4096];
     let number = fd as u64;
-    forms::append_form(b"/proc/self/fd/#", &[number], &[true], &mut p, 0);
-    p[4095] = 0;
-    io::count(libc::readlink(&p, room), room)
+    let n = forms::append_form(b"/proc/self/fd/#", &[number], &[true], &mut p, 0);
+    match read_link(rt, &p[..n], room) {
+        Ok(m) => m,
+        Err(_) => 0,
+    }
 }
 
 // A file that can't be opened: its name where there is none yet, else 0, and why is said.
-fn missing(path: &[u8], room: &mut [u8]) -> usize
+fn missing(rt: &impl Files, err: &impl Print, path: &[u8], e: Error, room: &mut [u8]) -> usize
     ensures { IsPrefixLen result room.new }
 {
-    if os::errno() != libc::ENOENT {
-        fail(path, b"nothing was rehearsed");
+    if e.kind() != ErrorKind::NotFound {
+        fail(err, path, e, b"nothing was rehearsed");
         return 0;
     }
-    if is_link(path) {
-        refuse(path, b"it is a link to a file that is not there");
+    if is_link(rt, path) {
+        refuse(err, path, b"it is a link to a file that is not there");
         return 0;
     }
     forms::append(path, room, 0)
 }
 
 // The name of the file that a path leads to, links followed, at the front of the room; 0 where there is none, and why is said.
-pub fn target(path: &[u8], room: &mut [u8]) -> usize
+pub fn target<R: Files + Alloc>(rt: &R, err: &impl Print, path: &[u8], room: &mut [u8]) -> usize
+where
+    R::File: AsRawFd,
     ensures { IsPrefixLen result room.new }
 {
-    let fd = os::open_read(path);
-    if fd < 0 {
-        return missing(path, room);
-    }
-    let n = name_of(fd, room);
-    libc::close(fd);
+    let file = match opened(rt, path) {
+        Ok(file) => file,
+        Err(e) => return missing(rt, err, path, e, room),
+    };
+    let n = name_of(rt, file.as_raw_fd(), room);
+    drop(file);
     if n == 0 {
-        refuse(path, b"/proc/self/fd does not tell its name");
+        refuse(err, path, b"/proc/self/fd does not tell its name");
     }
     n
 }
 
-// Makes FILE.new, for its owner alone since it will hold keys, and answers a descriptor; -1 where it is there already: it is another run's,
+// Makes FILE.new, for its owner alone since it will hold keys, and answers it; nothing where it is there already: it is another run's,
 // or was left behind by one.
-pub fn hold(name: &[u8]) -> i32 {
-    let fd = os::create(name);
-    if 0 <= fd {
-        libc::fchmod(fd, 0o600);
-        return fd;
+pub fn hold<R: Files>(rt: &R, err: &impl Print, name: &[u8]) -> Option<R::File> {
+    match created(rt, name) {
+        Ok(file) => {
+            let _ = file.set_permissions(Permissions::from_mode(0o600));
+            Some(file)
+        }
+        Err(e) => {
+            if e.kind() == ErrorKind::AlreadyExists {
+                refuse(
+                    err,
+                    name,
+                    b"it is there: another run has the tag, or one was stopped",
+                );
+                let _ = err.write_all(
+                    b"rehearse: where no run has it: if it has 684 bytes, it is the tag that the stopped run left; copy it over the file without .new. Then remove it\n",
+                );
+            } else {
+                fail(err, name, e, b"nothing was rehearsed");
+            }
+            None
+        }
     }
-    if os::errno() == libc::EEXIST {
-        refuse(
-            name,
-            b"it is there: another run has the tag, or one was stopped",
-        );
-        io::write_all(
-            STDERR_FILENO,
-            b"rehearse: where no run has it: if it has 684 bytes, it is the tag that the stopped run left; copy it over the file without .new. Then remove it\n",
-        );
-    } else {
-        fail(name, b"nothing was rehearsed");
-    }
-    -1
 }
 
 // Nothing is kept: FILE.new goes.
-pub fn release(fd: i32, name: &[u8]) {
-    libc::close(fd);
-    os::unlink(name);
+pub fn release<R: Files>(rt: &R, file: R::File, name: &[u8]) {
+    drop(file);
+    let _ = removed(rt, name);
 }
 
-// True where the bytes have reached the device.
-fn written(fd: i32, s: &[u8]) -> bool {
-    if io::write_all(fd, s) {
-        return libc::fsync(fd) == 0;
-    }
-    false
+// The bytes have reached the device, or why not.
+fn written(file: &mut (impl Write + OpenFile), s: &[u8]) -> io::Result<()> {
+    file.write_all(s)?;
+    file.sync_all()
 }
 
 // There was no file: FILE.new takes its name.
-fn renamed(path: &[u8], name: &[u8]) {
-    if os::rename(name, path) != 0 {
-        fail(path, b"the tag was not kept");
-        os::unlink(name);
+fn renamed(rt: &impl Files, err: &impl Print, path: &[u8], name: &[u8]) {
+    if let Err(e) = moved(rt, name, path) {
+        fail(err, path, e, b"the tag was not kept");
+        let _ = removed(rt, name);
     }
 }
 
 // The file is written over, so that its mode and its links stay, while FILE.new holds the same bytes.
-fn replaced(path: &[u8], name: &[u8], s: &[u8]) {
-    let fd = os::open_update(path);
-    if fd < 0 {
-        if os::errno() == libc::ENOENT {
-            return renamed(path, name);
+fn replaced(rt: &impl Files, err: &impl Print, path: &[u8], name: &[u8], s: &[u8]) {
+    let mut file = match reopened(rt, path) {
+        Ok(file) => file,
+        Err(e) => {
+            if e.kind() == ErrorKind::NotFound {
+                return renamed(rt, err, path, name);
+            }
+            fail(err, path, e, b"the tag was not kept");
+            let _ = removed(rt, name);
+            return;
         }
-        fail(path, b"the tag was not kept");
-        os::unlink(name);
-        return;
-    }
-    if written(fd, s) {
-        os::unlink(name);
-    } else {
-        fail(
+    };
+    match written(&mut file, s) {
+        Ok(()) => {
+            let _ = removed(rt, name);
+        }
+        Err(e) => fail(
+            err,
             path,
+            e,
             b"the tag is in the file with .new alone: copy it over the file, and remove it",
-        );
+        ),
     }
-    libc::close(fd);
 }
 
 // The tag's image goes to FILE.new, whole, and then to the file.
-pub fn store(fd: i32, path: &[u8], name: &[u8], tag: Tag) {
+pub fn store<R: Files>(
+    rt: &R,
+    err: &impl Print,
+    mut file: R::File,
+    path: &[u8],
+    name: &[u8],
+    tag: Tag,
+) {
     let mut s = [0u8; 684];
     storing::to_image(tag, &mut s);
-    if written(fd, &s) {
-        libc::close(fd);
-        return replaced(path, name, &s);
+    match written(&mut file, &s) {
+        Ok(()) => {
+            drop(file);
+            replaced(rt, err, path, name, &s);
+        }
+        Err(e) => {
+            fail(err, name, e, b"the tag was not kept");
+            release(rt, file, name);
+        }
     }
-    fail(name, b"the tag was not kept");
-    release(fd, name);
 }

@@ -4,11 +4,16 @@
 #![tactic(auto)]
 
 ghost use Rattle.std.specs.Prelude.{◌≤◌};
+ghost use Rattle.reading.specs.Counts.{IsPrefixLen};
 
 use arguments::Asked;
 use keeping::{Begun, Start};
-use libc::STDOUT_FILENO;
 use state::Tag;
+use std::env::FillError;
+use std::io::{ErrorKind, Read};
+use std::os::fd::AsRawFd;
+use std::random::RandomSource;
+use std::rt::{Env, Files};
 use tallies::Tally;
 
 mod keep;
@@ -24,59 +29,62 @@ struct Ran {
 }
 
 // The tag of an open file. A byte more than an image has is read too, to see one that is too long.
-fn resumed(fd: i32, uid: &[u8; 7]) -> Begun {
+fn resumed(mut file: impl Read + Drop, uid: &[u8; 7]) -> Begun {
     let mut s = [0u8; 685];
-    let n = io::read_full(fd, &mut s);
-    libc::close(fd);
+    let n = reading::read_full(&mut file, &mut s);
+    drop(file);
     keeping::kept(&s[..n], uid)
 }
 
 // The tag of the file, or a fresh one where there is no file or none is named.
-fn begin(path: &[u8], uid: &[u8; 7]) -> Begun {
+fn begin(rt: &impl Files, err: &impl Print, path: &[u8], uid: &[u8; 7]) -> Begun {
     let b = keeping::anew(uid);
     if path.len() == 0 {
         return b;
     }
-    let fd = os::open_read(path);
-    if 0 <= fd {
-        return resumed(fd, uid);
-    }
-    if os::errno() == libc::ENOENT {
-        return b;
-    }
-    keep::fail(path, b"nothing was rehearsed");
-    let tag = b.tag;
-    Begun {
-        start: Start::Unread,
-        tag,
+    match keep::opened(rt, path) {
+        Ok(file) => resumed(file, uid),
+        Err(e) => {
+            if e.kind() == ErrorKind::NotFound {
+                return b;
+            }
+            keep::fail(err, path, e, b"nothing was rehearsed");
+            let tag = b.tag;
+            Begun {
+                start: Start::Unread,
+                tag,
+            }
+        }
     }
 }
 
 // Says why nothing is rehearsed with the tag of a file.
-fn refused(path: &[u8], s: Start) {
+fn refused(err: &impl Print, path: &[u8], s: Start) {
     match s {
-        Start::NotABit => keep::refuse(path, b"a Boolean in it is neither 0 nor 1"),
-        Start::Unsound => keep::refuse(path, b"its state is not sound"),
-        Start::OtherUid => keep::refuse(path, b"the plan's UID is not its tag's"),
+        Start::NotABit => keep::refuse(err, path, b"a Boolean in it is neither 0 nor 1"),
+        Start::Unsound => keep::refuse(err, path, b"its state is not sound"),
+        Start::OtherUid => keep::refuse(err, path, b"the plan's UID is not its tag's"),
         _ => {}
     }
 }
 
 // Says why nothing is rehearsed.
-fn complain(path: &[u8], number: u64, s: Start) {
+fn complain(rt: &impl Print, err: &impl Print, path: &[u8], number: u64, s: Start) {
     match s {
-        Start::OtherLength => keep::refuse(path, b"it can't be read as an image of 684 bytes"),
+        Start::OtherLength => keep::refuse(err, path, b"it can't be read as an image of 684 bytes"),
         Start::EarlierVersion => keep::refuse(
+            err,
             path,
             b"this image is of an earlier version; docs/IMAGE.md says what to do with it",
         ),
-        Start::OtherVersion => keep::refuse(path, b"its version is not 2"),
+        Start::OtherVersion => keep::refuse(err, path, b"its version is not 2"),
         Start::NoUid => show::tell(
+            rt,
             b"line #: it must be the tag's UID, 7 bytes in hexadecimal, the first of them 04; nothing was rehearsed\n",
             &[number],
             &[true],
         ),
-        _ => refused(path, s),
+        _ => refused(err, path, s),
     }
 }
 
@@ -91,17 +99,25 @@ fn no_run(tag: Tag) -> Ran {
 }
 
 // Rehearses the lines from an index on, where there is a tag to start from.
-fn go_on(path: &[u8], b: Begun, text: &[u8], from: usize, number: u64) -> Ran
+fn go_on(
+    rt: &(impl Print + RandomSource),
+    err: &impl Print,
+    path: &[u8],
+    b: Begun,
+    text: &[u8],
+    from: usize,
+    number: u64,
+) -> Ran
     requires { number ≤ from }
 {
     let s = b.start;
     let t = b.tag;
     match s {
         Start::Ready => {
-            let w = walk::steps(t, text, from, number);
+            let w = walk::steps(rt, t, text, from, number);
             let tag = w.tag;
             let tally = w.tally;
-            show::summary(tag);
+            show::summary(rt, tag);
             Ran {
                 ready: true,
                 tag,
@@ -109,95 +125,140 @@ fn go_on(path: &[u8], b: Begun, text: &[u8], from: usize, number: u64) -> Ran
             }
         }
         _ => {
-            complain(path, number, s);
+            complain(rt, err, path, number, s);
             no_run(t)
         }
     }
 }
 
 // The tag that a run starts from, where the line is its UID.
-fn first_tag(path: &[u8], line: &[u8]) -> Begun {
+fn first_tag(rt: &impl Files, err: &impl Print, path: &[u8], line: &[u8]) -> Begun {
     let mut uid = [0u8; 7];
     if first_lines::line_uid(line, &mut uid) {
-        return begin(path, &uid);
+        return begin(rt, err, path, &uid);
     }
     keeping::anew(&uid)
 }
 
 // Rehearses a plan: the first line that is not blank is the UID.
-fn run(path: &[u8], text: &[u8]) -> Ran {
+fn run(
+    rt: &(impl Files + Print + RandomSource),
+    err: &impl Print,
+    path: &[u8],
+    text: &[u8],
+) -> Ran {
     let h = first_lines::first_line(text);
     let start = h.start;
     let end = h.end;
-    let b = first_tag(path, &text[start..end]);
-    go_on(path, b, text, end + 1, h.number)
+    let b = first_tag(rt, err, path, &text[start..end]);
+    go_on(rt, err, path, b, text, end + 1, h.number)
 }
 
 // Reads a plan into a room that is larger than any, and rehearses it.
-fn play_in(path: &[u8], text: &mut [u8]) -> Ran {
-    let n = io::read_full(0, text);
+fn play_in(
+    rt: &(impl Files + Input + Print + RandomSource),
+    err: &impl Print,
+    path: &[u8],
+    text: &mut [u8],
+) -> Ran {
+    let mut input = rt.reader();
+    let n = reading::read_full(&mut input, text);
     if n == text.len() {
-        io::write_all(
-            STDOUT_FILENO,
-            b"a plan has fewer than 262144 characters; nothing was rehearsed\n",
-        );
+        let _ = rt.write_all(b"a plan has fewer than 262144 characters; nothing was rehearsed\n");
         let b = keeping::anew(&[0; 7]);
         return no_run(b.tag);
     }
-    run(path, &text[..n])
+    run(rt, err, path, &text[..n])
 }
 
 // Reads and rehearses the plan. The path is empty where no tag is kept.
-fn play(path: &[u8]) -> Ran {
+fn play(rt: &(impl Files + Input + Print + RandomSource), err: &impl Print, path: &[u8]) -> Ran {
     let mut text = [0u8; 262144];
-    play_in(path, &mut text)
+    play_in(rt, err, path, &mut text)
 }
 
 // The same with FILE.new held: then it holds the tag, and the file does.
-fn play_held(fd: i32, path: &[u8], name: &[u8]) -> Tally {
-    let r = play(path);
+fn play_held<R: Files + Input + Print + RandomSource>(
+    rt: &R,
+    err: &impl Print,
+    file: R::File,
+    path: &[u8],
+    name: &[u8],
+) -> Tally {
+    let r = play(rt, err, path);
     let tag = r.tag;
     let tally = r.tally;
     if r.ready {
-        keep::store(fd, path, name, tag);
+        keep::store(rt, err, file, path, name, tag);
     } else {
-        keep::release(fd, name);
+        keep::release(rt, file, name);
     }
     tally
 }
 
 // The same with a file whose name is whole: FILE.new is held from here to the end.
-fn play_target(path: &[u8]) -> Tally {
+fn play_target(
+    rt: &(impl Files + Input + Print + RandomSource),
+    err: &impl Print,
+    path: &[u8],
+) -> Tally {
     let mut name = [0u8; 4096];
     let n = arguments::beside(path, &mut name);
-    let fd = keep::hold(&name[..n]);
-    if fd < 0 {
-        return tallies::none();
+    match keep::hold(rt, err, &name[..n]) {
+        Some(file) => play_held(rt, err, file, path, &name[..n]),
+        None => tallies::none(),
     }
-    play_held(fd, path, &name[..n])
+}
+
+// An argument at the front of the room, and its length; 0 where there is none or the room has no place for it.
+fn argument(rt: &impl Env, i: usize, room: &mut [u8]) -> usize
+    ensures { IsPrefixLen result room.new }
+{
+    match rt.arg(i, room) {
+        Ok(n) => n,
+        Err(_) => 0,
+    }
+}
+
+// How many arguments there are, the program's name among them.
+fn argument_count(rt: &impl Env) -> usize {
+    for i in 0..usize::MAX {
+        let mut a = [0u8; 1];
+        match rt.arg(i, &mut a) {
+            Err(FillError::NotPresent) => return i,
+            _ => {}
+        }
+    }
+    usize::MAX
 }
 
 // The same with the file that --image names, links followed. Its name and .new must be a path.
-fn play_kept() -> Tally {
+fn play_kept<R: Files + Env + Input + Print + RandomSource + Alloc>(
+    rt: &R,
+    err: &impl Print,
+) -> Tally
+where
+    R::File: AsRawFd,
+{
     let mut path = [0u8; 4091];
     let mut to = [0u8; 4091];
-    let n = os::arg(2, &mut path);
+    let n = argument(rt, 2, &mut path);
     if n == 0 {
-        io::write_all(
-            libc::STDERR_FILENO,
+        let _ = err.write_all(
             b"rehearse: the FILE of --image is empty or too long; nothing was rehearsed\n",
         );
         return tallies::none();
     }
-    let m = keep::target(&path[..n], &mut to);
+    let m = keep::target(rt, err, &path[..n], &mut to);
     if m == 0 {
         return tallies::none();
     }
-    play_target(&to[..m])
+    play_target(rt, err, &to[..m])
 }
 
-fn unknown(argument: &[u8]) {
+fn unknown(err: &impl Print, argument: &[u8]) {
     keep::warn(
+        err,
         b"rehearse: unknown argument ",
         argument,
         b"; the plan comes on standard input\n",
@@ -205,42 +266,50 @@ fn unknown(argument: &[u8]) {
 }
 
 // Names an argument that is not known. One that is empty or has more than 256 bytes is named so.
-fn refuse_argument(i: usize) {
+fn refuse_argument(rt: &impl Env, err: &impl Print, i: usize) {
     let mut a = [0u8; 256];
-    let n = os::arg(i, &mut a);
+    let n = argument(rt, i, &mut a);
     if n == 0 {
-        return unknown(b"(empty or too long)");
+        return unknown(err, b"(empty or too long)");
     }
-    unknown(&a[..n]);
+    unknown(err, &a[..n]);
 }
 
 // What the arguments ask for.
-fn started(a: Asked) -> Tally {
+fn started<R: Files + Env + Input + Print + RandomSource + Alloc>(
+    rt: &R,
+    err: &impl Print,
+    a: Asked,
+) -> Tally
+where
+    R::File: AsRawFd,
+{
     match a {
         Asked::Plain => {
-            let r = play(b"");
+            let r = play(rt, err, b"");
             r.tally
         }
-        Asked::Image => play_kept(),
+        Asked::Image => play_kept(rt, err),
         Asked::NoFile => {
-            io::write_all(libc::STDERR_FILENO, b"rehearse: --image needs a FILE\n");
+            let _ = err.write_all(b"rehearse: --image needs a FILE\n");
             tallies::none()
         }
         Asked::Unknown(i) => {
-            refuse_argument(i);
+            refuse_argument(rt, err, i);
             tallies::none()
         }
     }
 }
 
 // Whether the first argument is --image.
-fn names_image() -> bool {
+fn names_image(rt: &impl Env) -> bool {
     let mut a = [0u8; 256];
-    let n = os::arg(1, &mut a);
+    let n = argument(rt, 1, &mut a);
     base::alike(&a[..n], b"--image")
 }
 
-fn main() {
-    let a = arguments::asks(os::arg_count(), names_image());
-    show::last(started(a));
+fn main(rt: HostRuntime) {
+    let err = rt.stderr();
+    let a = arguments::asks(argument_count(&rt), names_image(&rt));
+    show::last(&rt, started(&rt, &err, a));
 }

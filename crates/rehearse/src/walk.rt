@@ -4,8 +4,8 @@ ghost use Rattle.turns.specs.Steps.{Stepped};
 ghost use Rattle.tallies.specs.Counts.{no_tally};
 ghost use Rattle.rehearse.specs.Counts.{Walked};
 
-use libc::STDOUT_FILENO;
 use state::Tag;
+use std::random::RandomSource;
 use tallies::Tally;
 use turns::Turn;
 
@@ -17,29 +17,35 @@ pub struct Rehearsal {
 }
 
 // A line, with these random bytes of the machine: what it does, and what is printed of it.
-fn taken(tag: Tag, number: u64, line: &[u8], d: &[u8]) -> Turn
+fn taken(rt: &impl Print, tag: Tag, number: u64, line: &[u8], d: &[u8]) -> Turn
     ensures { Stepped tag line.now result }
 {
     let mut room = [0u8; 4096];
     let a = turns::take_turn(tag, number, line, d, &mut room);
     let n = a.length;
-    io::write_all(STDOUT_FILENO, &room[..n]);
+    let _ = rt.write_all(&room[..n]);
     a.turn
 }
 
 // A line: its command is carried out, or it is skipped and the tag stays as it is.
-fn step(tag: Tag, number: u64, line: &[u8]) -> Turn
+fn step(rt: &(impl Print + RandomSource), tag: Tag, number: u64, line: &[u8]) -> Turn
     ensures { Stepped tag line.now result }
 {
     let mut d = [0u8; 20];
-    if libc::getentropy(&mut d) == 0 {
-        return taken(tag, number, line, &d);
+    if rt.fill_bytes(&mut d).is_ok() {
+        return taken(rt, tag, number, line, &d);
     }
-    taken(tag, number, line, b"")
+    taken(rt, tag, number, line, b"")
 }
 
 // The lines from an index on, in their order; the line before them has this number.
-pub fn steps(tag: Tag, text: &[u8], from: usize, number: u64) -> Rehearsal
+pub fn steps(
+    rt: &(impl Print + RandomSource),
+    tag: Tag,
+    text: &[u8],
+    from: usize,
+    number: u64,
+) -> Rehearsal
     requires { number ≤ from }
     ensures { Walked (length text.now) number (drop from text.now) tag no_tally result }
 {
@@ -51,7 +57,7 @@ pub fn steps(tag: Tag, text: &[u8], from: usize, number: u64) -> Rehearsal
         let end = lines::find(text, at, b'\n');
         let next = end + 1;
         line += 1;
-        let w = step(t, line, &text[at..end]);
+        let w = step(rt, t, line, &text[at..end]);
         let k = tallies::counted(n, line, w.went);
         t = w.tag;
         n = k;

@@ -10,25 +10,25 @@ use state::Tag;
 use tag::Outcome;
 
 // A reply of ours, n bytes at the front of the room: whether it is another than the logged one. Then both are printed.
-fn is_another(number: u64, logged: &[u8], room: &[u8], n: usize) -> bool
+fn is_another(rt: &impl Print, number: u64, logged: &[u8], room: &[u8], n: usize) -> bool
     ensures { result ≡ another logged.now room.now n }
 {
     if room.len() < n {
-        report::no_reply(number, logged);
+        report::no_reply(rt, number, logged);
         return true;
     }
     if base::alike(logged, &room[..n]) {
         return false;
     }
-    report::another(number, logged, &room[..n]);
+    report::another(rt, number, logged, &room[..n]);
     true
 }
 
 // A refusal is another answer than any reply.
-fn refused(number: u64, logged: &[u8], refusal: u64) -> bool
+fn refused(rt: &impl Print, number: u64, logged: &[u8], refusal: u64) -> bool
     ensures { result ≡ true }
 {
-    report::refusal(number, logged, refusal);
+    report::refusal(rt, number, logged, refusal);
     true
 }
 
@@ -44,22 +44,36 @@ fn refusal_of(outcome: Outcome) -> u64
     }
 }
 
-fn judged(number: u64, logged: &[u8], outcome: Outcome, room: &[u8], n: usize) -> bool
+fn judged(
+    rt: &impl Print,
+    number: u64,
+    logged: &[u8],
+    outcome: Outcome,
+    room: &[u8],
+    n: usize,
+) -> bool
     ensures { result ≡ differs logged.now outcome room.now n }
 {
     let refusal = refusal_of(outcome);
     if refusal == 0 {
-        return is_another(number, logged, room, n);
+        return is_another(rt, number, logged, room, n);
     }
-    refused(number, logged, refusal)
+    refused(rt, number, logged, refusal)
 }
 
-fn play(t: Tag, number: u64, command: &[u8], logged: &[u8], random: &[u8]) -> Played {
+fn play(
+    rt: &impl Print,
+    t: Tag,
+    number: u64,
+    command: &[u8],
+    logged: &[u8],
+    random: &[u8],
+) -> Played {
     let mut room = [0u8; 300];
     let d = tag::call(t, command, random, &mut room);
     let outcome = d.outcome;
     let after = d.tag;
-    let differs = judged(number, logged, outcome, &room, d.length);
+    let differs = judged(rt, number, logged, outcome, &room, d.length);
     Played {
         differs,
         tag: after,
@@ -76,11 +90,11 @@ fn unplayed(t: Tag) -> Played
 }
 
 // Whether the line that begins at a place can't be read; then it is named.
-fn faulty_at(text: &[u8], at: usize, line: u64) -> bool
+fn faulty_at(rt: &impl Print, text: &[u8], at: usize, line: u64) -> bool
     ensures { result ≡ unread (log_line_at text.now at) }
 {
     let f = log::read(text, at);
-    report::faulty(line, f)
+    report::faulty(rt, line, f)
 }
 
 fn either(a: bool, b: bool) -> bool
@@ -93,7 +107,7 @@ fn either(a: bool, b: bool) -> bool
 }
 
 // Whether a line of the exchange that begins at a place can't be read; each such line is named.
-fn broken(text: &[u8], at: usize, number: u64) -> bool
+fn broken(rt: &impl Print, text: &[u8], at: usize, number: u64) -> bool
     requires { (1 ≤ number) × (number ≤ 524288) }
     ensures { result ≡ broken text.now at }
 {
@@ -103,18 +117,18 @@ fn broken(text: &[u8], at: usize, number: u64) -> bool
     let middle = number * 3;
     let first = middle - 1;
     let last = middle + 1;
-    let command = faulty_at(text, at, first);
-    let reply = faulty_at(text, second, middle);
-    let random = faulty_at(text, third, last);
+    let command = faulty_at(rt, text, at, first);
+    let reply = faulty_at(rt, text, second, middle);
+    let random = faulty_at(rt, text, third, last);
     either(command, either(reply, random))
 }
 
 // The exchange that begins at a place. One with a line that can't be read differs and leaves the tag.
-pub fn run(t: Tag, text: &[u8], at: usize, number: u64) -> Played
+pub fn run(rt: &impl Print, t: Tag, text: &[u8], at: usize, number: u64) -> Played
     requires { (1 ≤ number) × (number ≤ 524288) }
     ensures { broken text.now at ≡ true → result ≡ unplayed t }
 {
-    if broken(text, at, number) {
+    if broken(rt, text, at, number) {
         return unplayed(t);
     }
     let second = log::next(text, at);
@@ -128,5 +142,5 @@ pub fn run(t: Tag, text: &[u8], at: usize, number: u64) -> Played
     let i = command.length;
     let j = reply.length;
     let k = random.length;
-    play(t, number, &asked[..i], &logged[..j], &drawn[..k])
+    play(rt, t, number, &asked[..i], &logged[..j], &drawn[..k])
 }

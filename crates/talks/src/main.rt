@@ -49,7 +49,7 @@ fn one_if(differs: bool) -> u64
 }
 
 // Every exchange of a log, from a tag on.
-fn play_all(text: &[u8], fresh: Tag)
+fn play_all(rt: &impl Print, text: &[u8], fresh: Tag)
     requires { length text.now ≤ 524288 }
 {
     let last = log::last(text);
@@ -59,22 +59,22 @@ fn play_all(text: &[u8], fresh: Tag)
     let mut differ: u64 = 0;
     while at < last {
         number += 1;
-        let p = exchange::run(t, text, at, number);
+        let p = exchange::run(rt, t, text, at, number);
         let after = p.tag;
         t = after;
         differ += one_if(p.differs);
         at = log::after(text, at);
     }
-    report::totals(number, differ);
+    report::totals(rt, number, differ);
 }
 
 // The UID, and a fresh tag of it.
-fn begin(text: &[u8])
+fn begin(rt: &impl Print, text: &[u8])
     requires { length text.now ≤ 524288 }
 {
     let uid = log::read(text, 0);
-    if report::faulty(1, uid) {
-        report::none_played();
+    if report::faulty(rt, 1, uid) {
+        report::none_played(rt);
         return;
     }
     let bytes = uid.bytes;
@@ -83,29 +83,30 @@ fn begin(text: &[u8])
     let made = birth.made;
     let fresh = birth.tag;
     match made {
-        Made::Fresh => play_all(text, fresh),
-        Made::WrongUid => report::no_uid(),
+        Made::Fresh => play_all(rt, text, fresh),
+        Made::WrongUid => report::no_uid(rt),
     }
 }
 
 // A log of at most 524288 bytes.
-fn short_enough(text: &[u8]) {
+fn short_enough(rt: &impl Print, text: &[u8]) {
     if 524288 < text.len() {
-        report::too_long();
+        report::too_long(rt);
         return;
     }
-    begin(text);
+    begin(rt, text);
 }
 
 // What is read fits into the room.
-fn read_into(room: &mut [u8]) {
-    let n = io::read_full(0, room);
+fn read_into(rt: &(impl Input + Print), room: &mut [u8]) {
+    let mut input = rt.reader();
+    let n = reading::read_full(&mut input, room);
     if n <= room.len() {
-        short_enough(&room[..n]);
+        short_enough(rt, &room[..n]);
     }
 }
 
-fn main() {
+fn main(rt: HostRuntime) {
     let mut text = [0u8; 524289];
-    read_into(&mut text);
+    read_into(&rt, &mut text);
 }
