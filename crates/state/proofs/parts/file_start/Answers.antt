@@ -1,0 +1,19 @@
+use Rattle.base.proofs.Bytes.{tests}
+use Rattle.state.specs.State.{start_of}
+use Rattle.state.proofs.parts.file_start.Goals as goal
+
+pub returns-in-1 : goal.returns-in-1
+unfolding start_of
+returns-in-1 c = search (tests, c.in-1.is)
+
+pub returns-in-2 : goal.returns-in-2
+unfolding start_of
+returns-in-2 c = search (tests, c.in-2.is)
+
+pub returns-in-3 : goal.returns-in-3
+unfolding start_of
+returns-in-3 c = search (tests, c.in-3.is)
+
+pub returns-in_default : goal.returns-in_default
+unfolding start_of
+returns-in_default c = search tests
