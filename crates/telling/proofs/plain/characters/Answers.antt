@@ -1,0 +1,25 @@
+-- `telling::plain::characters` meets its contract.
+use mathlib.Core.Path.{ap}
+use native.Mathlib.Omega.{arith}
+use Prim.Native.Nat.{◌-◌}
+use mathlib.Core.List.{[], ◌∷◌}
+use Rattle.forms.proofs.Laying.{going_none, going_more, going_end, going_length, lays_as}
+use Rattle.telling.proofs.Plainly.{dotted-step, dotted_end}
+use Rattle.telling.proofs.plain.characters.Goals as goal
+
+pub loop-i-init : goal.loop-i-init
+loop-i-init c = (omega arith, going_none _ _ _)
+
+pub loop-i-preserved : goal.loop-i-preserved
+loop-i-preserved c =
+    let loop = c.loop-i in (
+      omega arith,
+      going_more loop.invariant.1 _ _ (lays_as c.append-e.ensures (ap (λ x. x ∷ []) c.dot.ensures)) (dotted-step c.args.s.now
+          loop.i c.loop-i-test.true),
+    )
+
+pub shape_of-room : goal.shape_of-room
+shape_of-room c = going_length c.loop-i.invariant.1
+
+pub returns : goal.returns
+returns c = going_end c.loop-i.invariant.1 (dotted_end c.args.s.now c.loop-i.i c.loop-i-test.false)
