@@ -10,7 +10,7 @@ use lib.Seq.{take_at, drop_at}
 use Rattle.base.specs.Bytes.{byte_at, AllBytes}
 use Rattle.base.proofs.Bytes.{append-bytes, take-bytes, drop-bytes}
 use Rattle.inverse.specs.RoundKeys.{IsKeys}
-use Rattle.aes.specs.Block.{IsBlock, xor_block_lem, cipher, inv_cipher}
+use Rattle.aes.specs.Block.{IsBlock, xor_block, cipher, inv_cipher}
 use Rattle.cbc.specs.Cbc.{across, sealed, opened, cbc_out, cbc_back}
 use Rattle.inverse.proofs.Steps.{xor_block_lem, xor_undone}
 use Rattle.inverse.proofs.Inverse.{back_of_cipher, cipher_of_back, cipher_block, back_of_block}
@@ -70,7 +70,7 @@ module _ (f g : Step) (h : Blocks f g) where
 module _ (w : List (List ℕ)) (k : IsKeys w) where
   out_blocks : Blocks (sealed w) (sealed w)
   unfolding sealed
-  out_blocks = record { out = λ v p hv hp. cipher_block w k (xor_block_lem p v); next = λ v p hv hp. cipher_block w k (xor_block_lem p v) }
+  out_blocks = record { out = λ v p hv hp. cipher_block w k (xor_block p v); next = λ v p hv hp. cipher_block w k (xor_block p v) }
 
   back-blocks : Blocks (opened w) (λ u c. c)
   unfolding opened
@@ -78,7 +78,7 @@ module _ (w : List (List ℕ)) (k : IsKeys w) where
 
   opened-sealed : (v p : List ℕ) → IsBlock v → IsBlock p → opened w v (sealed w v p) ≡ p
   unfolding sealed opened
-  opened-sealed v p hv hp = ap (λ x. xor_block_lem x v) (back_of_cipher w k (xor_block_lem p v) (xor_block_lem p v hp hv)) ∙ xor_undone p v hp
+  opened-sealed v p hv hp = ap (λ x. xor_block x v) (back_of_cipher w k (xor_block p v) (xor_block_lem p v hp hv)) ∙ xor_undone p v hp
 
   sealed-opened : (v p : List ℕ) → IsBlock v → IsBlock p → sealed w v (opened w v p) ≡ p
   unfolding sealed opened

@@ -6,7 +6,7 @@ use native.Mathlib.Omega.{arith}
 use lib.Dec.{lit<}
 use Rattle.sbox.specs.Tables.{sbox, inv_sbox}
 use Rattle.sbox.proofs.Rule.{sbox-bytes, inv_sbox-bytes}
-use Rattle.aes.specs.Block.{IsBlock, round_key, xor_block_lem, substitute, shift_rows, inv_shift_rows, mix_columns, inv_mix_columns, add_round_key, rounds, cipher, rounds_back, inv_cipher}
+use Rattle.aes.specs.Block.{IsBlock, round_key, xor_block, substitute, shift_rows, inv_shift_rows, mix_columns, inv_mix_columns, add_round_key, rounds, cipher, rounds_back, inv_cipher}
 use Rattle.inverse.specs.RoundKeys.{IsKeys}
 use Rattle.inverse.proofs.Steps.{xor_block_lem, substitute_block, shift_block, shift_back_block, mix_block, unmix_block}
 use Rattle.inverse.proofs.Steps.{xor_undone, substitute_undone, substitute_redone, shift_undone, shift_redone, mix_undone, mix_redone}

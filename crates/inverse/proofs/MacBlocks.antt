@@ -5,15 +5,15 @@ use Prim.Native.Nat.{ℕ, zero, suc, ◌+◌, ◌-◌, ◌*◌}
 use lib.ListN.{length, take, drop, replicate}
 use Rattle.base.specs.Bytes.{byte_at, AllBytes}
 use Rattle.base.proofs.Bytes.{tab-bytes}
-use Rattle.aes.specs.Block.{IsBlock, cipher, xor_block_lem}
+use Rattle.aes.specs.Block.{IsBlock, cipher, xor_block}
 use Rattle.cmac.specs.Cmac.{blocks_of, last_block, chained, cmac, even_places}
 use Rattle.inverse.specs.RoundKeys.{IsKeys}
 use Rattle.inverse.proofs.Inverse.{cipher_block}
 
 chained_block : (w : List (List ℕ)) → IsKeys w → (n : ℕ) (v s : List ℕ) → IsBlock (chained w n v s)
 unfolding chained
-chained_block w k zero v s = cipher_block w k (xor_block_lem (last_block w s) v)
-chained_block w k (suc n) v s = chained_block w k n (cipher w (xor_block_lem (take 16 s) v)) (drop 16 s)
+chained_block w k zero v s = cipher_block w k (xor_block (last_block w s) v)
+chained_block w k (suc n) v s = chained_block w k n (cipher w (xor_block (take 16 s) v)) (drop 16 s)
 
 pub cmac_block : (w : List (List ℕ)) → IsKeys w → (s : List ℕ) → IsBlock (cmac w s)
 unfolding cmac

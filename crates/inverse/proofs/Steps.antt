@@ -13,14 +13,14 @@ use Rattle.sbox.proofs.Linear.{xor_twice, xor_byte}
 use Rattle.sbox.proofs.Rule.{inv_of_sbox, sbox_of_inv, sbox-bytes, inv_sbox-bytes}
 use Rattle.sbox.proofs.Columns.{mixed_byte, unmixed_byte, unmixed-mixed, mixed-unmixed}
 use Rattle.aes.proofs.Words.{block_table}
-use Rattle.aes.specs.Block.{IsBlock, xor_block_lem, substitute, shift_rows, inv_shift_rows, below, mix_columns, inv_mix_columns}
+use Rattle.aes.specs.Block.{IsBlock, xor_block, substitute, shift_rows, inv_shift_rows, below, mix_columns, inv_mix_columns}
 
 -- ---- blocks stay blocks
 pub table_block : (f : ℕ → ℕ) → ((i : ℕ) → f i < 256) → IsBlock (tab 16 f)
 table_block f h = record { len = tab-length 16 f; bytes = tab-bytes 16 f h }
 
-pub xor_block_lem : (a b : List ℕ) → IsBlock a → IsBlock b → IsBlock (xor_block_lem a b)
-unfolding xor_block_lem AllBytes
+pub xor_block_lem : (a b : List ℕ) → IsBlock a → IsBlock b → IsBlock (xor_block a b)
+unfolding xor_block AllBytes
 xor_block_lem a b ha hb = table_block (λ i. byte_at a i ⊕ byte_at b i) (λ i. xor_byte (byte_at a i) (byte_at b i) (ha.bytes i) (hb.bytes i))
 
 pub substitute_block : (box s : List ℕ) → AllBytes box → IsBlock (substitute box s)
@@ -53,8 +53,8 @@ unmix_block s h =
     (λ i. unmixed_byte (below s i 0) (below s i 1) (below s i 2) (below s i 3) (below_byte s h i 0) (below_byte s h i 1) (below_byte s h i 2) (below_byte s h i 3))
 
 -- ---- each step and its opposite
-pub xor_undone : (s k : List ℕ) → IsBlock s → xor_block_lem (xor_block_lem s k) k ≡ s
-unfolding xor_block_lem
+pub xor_undone : (s k : List ℕ) → IsBlock s → xor_block (xor_block s k) k ≡ s
+unfolding xor_block
 xor_undone s k h = tab_ext 16 (λ i. (byte_at s i ⊕ byte_at k i) ⊕ byte_at k i) (byte_at s) (λ i. xor_twice (byte_at s i) (byte_at k i)) ∙ block_table s h
 
 pub substitute_undone : (s : List ℕ) → IsBlock s → substitute inv_sbox (substitute sbox s) ≡ s
