@@ -7,7 +7,7 @@ use Rattle.rules.specs.Rules.{option_bits, sdm_file, rights, rest_rules, rules, 
 use Rattle.rules.specs.Numbers.{finding_number}
 use Rattle.rules.proofs.Found.{Finds, whole, checked, found_number}
 use Rattle.rules.proofs.Meant.{head_meant}
-use borrow.Author.Rules.{rules}
+use borrow.Author.Rules.{rules as the_rules}
 use Rattle.rules.proofs.examine.Goals as goal
 
 pub rest_broken-f6-requires : goal.rest_broken-f6-requires
