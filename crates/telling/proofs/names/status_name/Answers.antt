@@ -1,11 +1,11 @@
 -- `telling::names::status_name` meets its contract.
 use mathlib.Core.Path.{refl, ap, ◌∙◌}
 use Rattle.forms.proofs.Laying.{lays_as}
-use mathlib.Core.Logic.{⊎_elim}
 use borrow.Author.Tests.{eq-eqb, ne_eqb, le-leb, lt-leb}
 use Rattle.telling.specs.Names.{table23, table24, not_in23, not_in24, exact_le, row_of, name_of}
 use Rattle.telling.proofs.Naming.{key_is}
 use Rattle.telling.proofs.names.status_name.Goals as goal
+use Rattle.telling.proofs.names.status_name.Goals.{then-status-ge27649+else-status-le27903, else-status-ge27649}
 
 pub returns-then-status-eq145 : goal.returns-then-status-eq145
 unfolding name_of
@@ -25,5 +25,7 @@ unfolding name_of
 returns c =
     let encode = c.encode in
     let if1 = c.if-status-eq145 in
-    ⊎_elim (λ h. rw (ne_eqb _ 0x91 if1.false, le-leb _ _ h.0.taken, lt-leb _ _ h.1.left) (lays_as c.inter_industry.ensures (ap (λ k. row_of 0 table24 k not_in24) (encode.ensures ∙ key_is _ _ refl)))) (λ h. rw (ne_eqb _ 0x91 if1.false, lt-leb _ _ h.left)
-    (lays_as c.inter_industry.ensures (ap (λ k. row_of 0 table24 k not_in24) (encode.ensures ∙ key_is _ _ refl)))) c.if-status-ge27649.branch
+    elim c.if-status-ge27649.branch [
+      | then-status-ge27649+else-status-le27903 w ↦ rw (ne_eqb _ 0x91 if1.false, le-leb _ _ w.if-status-ge27649.true, lt-leb _ _ w.if-status-le27903.false) (lays_as c.inter_industry.ensures (ap (λ k. row_of 0 table24 k not_in24) (encode.ensures ∙ key_is _ _ refl)))
+      | else-status-ge27649 w ↦ rw (ne_eqb _ 0x91 if1.false, lt-leb _ _ w.if-status-ge27649.false) (lays_as c.inter_industry.ensures (ap (λ k. row_of 0 table24 k not_in24) (encode.ensures ∙ key_is _ _ refl)))
+    ]
