@@ -2,18 +2,18 @@
 use mathlib.Core.Path.{◌≡◌, refl, sym, ap, ap₂, subst, ◌∙◌}
 use mathlib.Core.Bool.{Bool, true, false}
 use mathlib.Core.List.{List, [], ◌∷◌, ◌++◌, append_assoc, append-nil}
-use Prim.Native.Nat.{ℕ, zero, suc, ◌+◌, ◌-◌, ◌*◌, ◌/◌, ◌%◌, ◌^◌, ◌≤◌, ◌<◌}
+use Prim.Native.Nat.{ℕ, zero, suc, ◌+◌, ◌-◌, ◌≤◌, ◌<◌}
 use native.Mathlib.Omega.{arith}
 use native.Mathlib.Numerals.{add-one}
-use lib.Dec.{eqb, leb, lit<}
-use lib.ListN.{length, get_or, take, drop, set, length-append, length-take, length-drop, replicate, drop_of_length-le}
-use lib.Seq.{get_or-drop, take_all, take-length, drop-cons, drop-append-add, drop-drop, drop-length, take-append_seam, take_at, drop_at, paste, length-paste, ext_get_or}
+use lib.Dec.{eqb, lit<}
+use lib.ListN.{length, get_or, take, drop, length-append, length-drop, replicate, drop_of_length-le}
+use lib.Seq.{get_or-drop, take-length, drop-cons, drop-append-add, drop-drop, take-append_seam, paste, length-paste}
 use borrow.Author.Tests.{le-leb, lt-leb, eq-eqb, ne_eqb, eqb-true}
 use mathlib.Core.Logic.{◌⊎◌, inl, inr, ⊎_elim}
 use native.Mathlib.Nat.{le_refl, sub-zero, zero-sub, suc-sub-suc}
 use native.Mathlib.Decide.{dec_le}
 use Rattle.base.specs.Decide.{pick, and}
-use Rattle.base.specs.Bytes.{byte_at, AllBytes, same, laid, number, low, over, tab}
+use Rattle.base.specs.Bytes.{byte_at, AllBytes, same, laid, over, tab}
 
 pub ruleset tests = (borrow.Author.Tests.eq-eqb, borrow.Author.Tests.ne_eqb, borrow.Author.Tests.lt-ltb, borrow.Author.Tests.le-ltb, borrow.Author.Tests.le-leb, borrow.Author.Tests.lt-leb)
 

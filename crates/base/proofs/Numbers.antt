@@ -1,11 +1,11 @@
 -- Numbers low byte first: writing and reading undo each other, at every width.
-use mathlib.Core.Path.{◌≡◌, refl, sym, ap, ap₂, subst, ◌∙◌}
+use mathlib.Core.Path.{◌≡◌, refl, ap}
 use mathlib.Core.List.{List, [], ◌∷◌}
 use Prim.Native.Nat.{ℕ, zero, suc, ◌+◌, ◌*◌, ◌/◌, ◌%◌, ◌^◌, ◌<◌}
-use native.Mathlib.Nat.{pow-suc, mod-lt, div-lt_iff_lt-mul}
+use native.Mathlib.Nat.{pow-suc, div-lt_iff_lt-mul}
 use native.Mathlib.Omega.{arith}
-use lib.ListN.{length, get_or}
-use Rattle.base.specs.Bytes.{byte_at, AllBytes, number, low}
+use lib.ListN.{length}
+use Rattle.base.specs.Bytes.{AllBytes, number, low}
 
 pub low-length : (n v : ℕ) → length (low n v) ≡ n
 unfolding low

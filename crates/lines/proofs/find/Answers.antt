@@ -1,5 +1,4 @@
 -- `lines::find` meets its contract.
-use Prim.Native.Nat.{◌-◌}
 use mathlib.Core.Path.{refl, sym, ◌∙◌}
 use Rattle.lines.proofs.Steps.{seek-here, seek_next, seek_end}
 use Rattle.lines.proofs.find.Goals as goal
