@@ -15,4 +15,4 @@ pub returns-in-Unknown : goal.returns-in-Unknown
 returns-in-Unknown c =
     let a = c.args in
     let e = sym c.judge_file-f.ensures.told ∙ c.in-Unknown.is in
-    sym (unknown_file a.file WrongFile (verdict_of a.found) c.in-Unknown.f e)
+    sym (unknown_file a.file WrongFile (verdict_of a.found) c.in-Unknown.e e)
