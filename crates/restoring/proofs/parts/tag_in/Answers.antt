@@ -19,7 +19,7 @@ returns c =
       live = c.live_in-live.ensures i;
       pending =
           c.pending_in-pending.ensures i;
-      place = c.IsPlace-in.ensures i;
+      place = c.place_in-place.ensures i;
       tap =
           c.tap_in-tap.ensures i;
     }
