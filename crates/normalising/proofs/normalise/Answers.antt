@@ -6,9 +6,9 @@ use Rattle.normalising.proofs.normalise.Goals as goal
 pub returns-in-Good : goal.returns-in-Good
 returns-in-Good c = record {
   answer = (rw (sym c.judge-v.ensures ∙ c.in-Good.is)
-      c.lay_normal.ensures).0;
+      c.lay_normal.ensures.answer);
   left = (rw (sym c.judge-v.ensures ∙ c.in-Good.is)
-      c.lay_normal.ensures).1;
+      c.lay_normal.ensures.left);
 }
 
 pub returns-in-Refused : goal.returns-in-Refused
