@@ -12,4 +12,4 @@ unfolding one_of
 returns-in-113 c = each (λ n. true ≡ one_of n (0x71 ∷ 0x77 ∷ 0xAF ∷ [])) (0x71 ∷ 0x77 ∷ 0xAF ∷ []) c.args.ins c.in-113.is (refl, (refl, (refl, tt)))
 
 pub returns-in_default : goal.returns-in_default
-returns-in_default c = sym (none (0x71 ∷ 0x77 ∷ 0xAF ∷ []) c.args.ins c.in_default.rest.1)
+returns-in_default c = sym (none (0x71 ∷ 0x77 ∷ 0xAF ∷ []) c.args.ins c.in_default.in_default-own.rest.1)

@@ -14,4 +14,4 @@ returns-in-95 c = each (λ n. true ≡ has_data n) (0x5F ∷ 0x8D ∷ 0xC4 ∷ [
 
 pub returns-in_default : goal.returns-in_default
 unfolding has_data
-returns-in_default c = sym (none (0x5F ∷ 0x8D ∷ 0xC4 ∷ []) c.args.ins c.in_default.rest.1)
+returns-in_default c = sym (none (0x5F ∷ 0x8D ∷ 0xC4 ∷ []) c.args.ins c.in_default.in_default-own.rest.1)

@@ -17,4 +17,4 @@ returns-in-141 c = each (λ n. 7 ≡ header_length n) (0x8D ∷ 0xAD ∷ []) c.a
 
 pub returns-in_default : goal.returns-in_default
 unfolding header_length
-returns-in_default c = let n = c.args.ins in rw (none (0x51 ∷ 0x71 ∷ 0x77 ∷ 0xAF ∷ []) n c.in_default.rest.0.1, none (0x8D ∷ 0xAD ∷ []) n c.in_default.rest.1) refl
+returns-in_default c = let n = c.args.ins in rw (none (0x51 ∷ 0x71 ∷ 0x77 ∷ 0xAF ∷ []) n c.in_default.in_default-own.rest.0.1, none (0x8D ∷ 0xAD ∷ []) n c.in_default.in_default-own.rest.1) refl

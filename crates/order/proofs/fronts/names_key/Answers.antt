@@ -14,4 +14,4 @@ returns-in-100 c = each (λ n. true ≡ names_key n) (0x64 ∷ 0xC4 ∷ []) c.ar
 
 pub returns-in_default : goal.returns-in_default
 unfolding names_key
-returns-in_default c = sym (none (0x64 ∷ 0xC4 ∷ []) c.args.ins c.in_default.rest.1)
+returns-in_default c = sym (none (0x64 ∷ 0xC4 ∷ []) c.args.ins c.in_default.in_default-own.rest.1)

@@ -13,7 +13,7 @@ returns-then-file-eq0 c = search (
   tests,
   ← c.at.ensures,
   ← c.at-2.ensures,
-  ← c.fits2.ensures,
+  ← c.fits.ensures,
   c.if-fits.true,
 )
 
@@ -23,7 +23,7 @@ returns-then-fits c = search (
   tests,
   ← c.at.ensures,
   ← c.at-2.ensures,
-  ← c.fits2.ensures,
+  ← c.fits.ensures,
   c.if-fits.true,
 )
 
@@ -33,6 +33,6 @@ returns c = search (
   tests,
   ← c.at.ensures,
   ← c.at-2.ensures,
-  ← c.fits2.ensures,
+  ← c.fits.ensures,
   c.if-fits.false,
 )
