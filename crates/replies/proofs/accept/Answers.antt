@@ -22,9 +22,9 @@ returns-in-Reply c =
     let l : length a.bytes ≡ 258 = search rules in
     let e : length s.result.enc ≡ 16 = search rules in
     let p : (i : ℕ) → Fits w8 (byte_at s.result.enc i) = λ i. search rules in
-    let q : (i : ℕ) → Fits w8 (byte_at a.bytes i) = λ i. search (rules, c.well-formed) in
+    let q : (i : ℕ) → Fits w8 (byte_at a.bytes i) = λ i. search (rules, c.well_formed) in
     accepts-reply a.tag a.m s.result a.bytes _ a.n k.result x.result l k.ensures x.ensures c.after-t.result
-    c.in-Reply.closed c.in-Reply.is e (λ i. omega (arith, p i)) (λ i. omega (arith, q i)) c.after-t.ensures s.ensures
+    c.in-Reply.length c.in-Reply.is e (λ i. omega (arith, p i)) (λ i. omega (arith, q i)) c.after-t.ensures s.ensures
 
 pub returns-in-Over : goal.returns-in-Over
 returns-in-Over c =
