@@ -28,12 +28,12 @@ fault_number true b w e = refl
 fault_number false true w e = refl
 fault_number false false w e = e
 
-record_number : (b : Bool) (r : Settings) (room : List ℕ) → written_number (record_as b r room) ≡ record_number b r room
+record_number_lem : (b : Bool) (r : Settings) (room : List ℕ) → written_number (record_as b r room) ≡ record_number b r room
 unfolding record_as record_number written_number
-record_number true r room = laid-number (leb (length (string_of r)) (length room)) (length (string_of r))
-record_number false r room = refl
+record_number_lem true r room = laid-number (leb (length (string_of r)) (length room)) (length (string_of r))
+record_number_lem false r room = refl
 
 pub written-number : (n : ℕ) (r : Settings) (room : List ℕ) → written_number (written_as n r room) ≡ writing_number n r room
 unfolding written_as writing_number
 written-number n r room =
-    fault_number (ltb 31 n) (or (eqb n 0) (ltb 3 n)) (record_as (meets n r) r room) (record_number (meets n r) r room)
+    fault_number (ltb 31 n) (or (eqb n 0) (ltb 3 n)) (record_as (meets n r) r room) (record_number_lem (meets n r) r room)

@@ -23,6 +23,6 @@ returns-in-Unknown c =
     let s = c.args in
     let n = s.file in
     let d = s.room.now in
-    let g = c.in-Unknown.f in
+    let g = c.in-Unknown.e in
     let e = sym c.judge_file-f.ensures.told ∙ c.in-Unknown.is in
     let a = sym (unknown_file n NoFile (record_as (meets n s.r) s.r d) g e) in record { answer = a; left = sym (unknown_file n (λ f. d) (record_room (meets n s.r) s.r d) g e); number = ap written_number a ∙ written-number n s.r d }
