@@ -1,4 +1,4 @@
-/* Mainspur: a software NTAG 424 DNA tag, for C on x86-64 Linux. Link libstand.a (`rt staticlib stand`).
+/* Mainspur: a software NTAG 424 DNA tag, for C on x86-64 Linux. Link libstand.a (`rt lib` in crates/stand makes crates/stand/out/libstand.a).
  *
  * A tag's state is an image of mainspur_image_length() bytes that the caller keeps (docs/IMAGE.md). Images may be copied
  * and stored. No call keeps a pointer, allocates, or uses anything but its arguments. What each call answers and leaves is

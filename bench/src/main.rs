@@ -68,7 +68,7 @@ fn measure(work: &Workload) -> bool {
 }
 
 fn main() {
-    println!("proved: libstand.a of `rt staticlib stand` (rattle's own release build), called through include/mainspur.h's functions");
+    println!("proved: libstand.a of `rt lib` in crates/stand (LLVM at -O3), called through include/mainspur.h's functions");
     println!("peer: rustc, opt-level 3, the same process; rounds of 1,000 calls, the two in turn for four seconds, the fastest of each; images and replies on the stack");
     let done = match workloads() {
         Some(all) => all.iter().map(measure).filter(|fair| *fair).count() == all.len(),
