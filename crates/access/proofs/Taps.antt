@@ -26,6 +26,24 @@ not_true : (b : Bool) → not b ≡ true → b ≡ false
 not_true true e = sym e
 not_true false e = refl
 
+-- a command that is neither of the two reads is no read
+pub not_read : (n : Name) → (n ≡ ReadData → ⊥) → (n ≡ IsoReadBinary → ⊥) → false ≡ reads n
+unfolding reads
+not_read AuthenticateFirst a b = refl
+not_read AuthenticateNonFirst a b = refl
+not_read PartTwo a b = refl
+not_read ChangeKey a b = refl
+not_read GetKeyVersion a b = refl
+not_read GetCardUid a b = refl
+not_read GetFileSettings a b = refl
+not_read ChangeFileSettings a b = refl
+not_read GetFileCounters a b = refl
+not_read ReadData a b = absurd (a refl)
+not_read WriteData a b = refl
+not_read IsoSelectFile a b = refl
+not_read IsoReadBinary a b = absurd (b refl)
+not_read IsoUpdateBinary a b = refl
+
 pub no_read : (n : Name) → OneOf others (tag_of the_type n) → false ≡ reads n
 unfolding reads
 no_read AuthenticateFirst h = refl
