@@ -187,8 +187,8 @@ has_uid_determined h = once
 pub head_of_determined : (s : List ℕ) → Determined (λ (r : Head). r ≡ head_of s)
 head_of_determined s = once
 
-pub present-fields_determined : (h : Head) → Determined (λ (r : List Bool). r ≡ present h)
-present-fields_determined h = once
+pub present_fields_determined : (h : Head) → Determined (λ (r : List Bool). r ≡ present h)
+present_fields_determined h = once
 
 pub sdm_on_determined : (s : List ℕ) → Determined (λ (r : Bool). r ≡ sdm_on s)
 sdm_on_determined s = once
@@ -222,8 +222,8 @@ meets_determined file r = once
 pub see_determined : (file : ℕ) (s : List ℕ) → Determined (λ (r : Seen). r ≡ seen file s)
 see_determined file s = once
 
-pub status-word_determined : (s : Status) → Determined (λ (r : ℕ). r ≡ status_word s)
-status-word_determined s = once
+pub status_word_determined : (s : Status) → Determined (λ (r : ℕ). r ≡ status_word s)
+status_word_determined s = once
 
 pub file_fault_word_determined : (f : FileFault) → Determined (λ (r : ℕ). r ≡ file_fault_word f)
 file_fault_word_determined f = once
@@ -266,14 +266,14 @@ tap_encrypt_determined key counter text = hides_once
 pub tap_iv_determined : (key : List ℕ) (counter : ℕ) → Determined (λ (r : Ciphered). r ≡ ciphered (tap_iv key counter) tap_iv_cost)
 tap_iv_determined key counter = once
 
-pub tap-enc-key_determined : (key : List ℕ) (t : Tap) → Determined (λ (r : Ciphered). r ≡ ciphered (tap_enc_key key t) tap_key_cost)
-tap-enc-key_determined key t = once
+pub tap_enc_key_determined : (key : List ℕ) (t : Tap) → Determined (λ (r : Ciphered). r ≡ ciphered (tap_enc_key key t) tap_key_cost)
+tap_enc_key_determined key t = once
 
-pub tap-mac-key_determined : (key : List ℕ) (t : Tap) → Determined (λ (r : Ciphered). r ≡ ciphered (tap_mac_key key t) tap_key_cost)
-tap-mac-key_determined key t = once
+pub tap_mac_key_determined : (key : List ℕ) (t : Tap) → Determined (λ (r : Ciphered). r ≡ ciphered (tap_mac_key key t) tap_key_cost)
+tap_mac_key_determined key t = once
 
-pub tap-mac_determined : (key text : List ℕ) → Determined (λ (r : Truncated). r ≡ truncated (mac key text) (cmac_cost (length text)))
-tap-mac_determined key text = once
+pub tap_mac_determined : (key text : List ℕ) → Determined (λ (r : Truncated). r ≡ truncated (mac key text) (cmac_cost (length text)))
+tap_mac_determined key text = once
 
 -- ---- authentication
 pub part_one_determined : (kx b : List ℕ) → Determined (λ (r : Ciphered). r ≡ ciphered (enciphered kx b) part_one_cost)

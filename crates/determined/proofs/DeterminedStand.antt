@@ -51,9 +51,9 @@ image_length_determined = once
 pub check_string_determined : (file : ℕ) (text : List ℕ) → Determined (λ (r : ℕ). r ≡ verdict_word (judged file text))
 check_string_determined file text = once
 
-pub normal-string_determined : (file : ℕ) (text room : List ℕ)
+pub normal_string_determined : (file : ℕ) (text room : List ℕ)
     → DeterminedIn (λ (r : ℕ) (new : List ℕ). (r ≡ normal_number (normalised (judged file text) text room)) × (new ≡ normal_room (judged file text) text room))
-normal-string_determined file text room = twice
+normal_string_determined file text room = twice
 
 -- ---- storing
 pub to_image_determined : (tag : Tag) (s : List ℕ)
@@ -103,9 +103,9 @@ line_uid_determined line room = twice
 pub first_line_determined : (text : List ℕ) → Determined (λ (r : FirstLine). Begins text r)
 first_line_determined text r q p h = once r q p.told h.told
 
-pub bytes-given_determined : (s room : List ℕ)
+pub bytes_given_determined : (s room : List ℕ)
     → DeterminedIn (λ (r : Bool) (new : List ℕ). (r ≡ good_bytes (length room) s) × (new ≡ bytes_room s room))
-bytes-given_determined s room = twice
+bytes_given_determined s room = twice
 
 pub tidy_determined : (line room : List ℕ)
     → DeterminedIn (λ (r : ℕ) (new : List ℕ). (r ≡ length (take (length room) (tidied line))) × (new ≡ over (take (length room) (tidied line)) room))
@@ -146,8 +146,8 @@ beside_determined path room = twice
 pub append_determined : (s room : List ℕ) (n : ℕ) → DeterminedIn (λ (r : ℕ) (new : List ℕ). Lays s n room r new)
 append_determined s room n r q new other p h = twice r q new other (p.end, p.left) (h.end, h.left)
 
-pub append-from_determined : (s : List ℕ) (k : ℕ) (room : List ℕ) (n : ℕ) → DeterminedIn (λ (r : ℕ) (new : List ℕ). Lays (drop k s) n room r new)
-append-from_determined s k room n = append_determined (drop k s) room n
+pub append_from_determined : (s : List ℕ) (k : ℕ) (room : List ℕ) (n : ℕ) → DeterminedIn (λ (r : ℕ) (new : List ℕ). Lays (drop k s) n room r new)
+append_from_determined s k room n = append_determined (drop k s) room n
 
 pub append_form_determined : (form numbers : List ℕ) (flags : List Bool) (room : List ℕ) (n : ℕ)
     → DeterminedIn (λ (r : ℕ) (new : List ℕ). Lays (form_of true form numbers flags) n room r new)
@@ -169,9 +169,9 @@ none_determined = once
 taken_by : {r q : Taken} → r.turn ≡ q.turn → r.length ≡ q.length → r ≡ q
 taken_by a b = ap₂ (λ t n. record { turn = t; length = n }) a b
 
-pub take-turn_determined : (tag : Tag) (number : ℕ) (line d room : List ℕ)
+pub take_turn_determined : (tag : Tag) (number : ℕ) (line d room : List ℕ)
     → DeterminedIn (λ (r : Taken) (new : List ℕ). (r.turn ≡ (line_acted tag line d).turn) × (Lays (line_told number tag line d) 0 room r.length new))
-take-turn_determined tag number line d room r q new other p h =
+take_turn_determined tag number line d room r q new other p h =
     let t = append_determined (line_told number tag line d) room 0 r.length q.length new other p.1 h.1 in
     (taken_by (p.0 ∙ sym h.0) t.0, t.1)
 

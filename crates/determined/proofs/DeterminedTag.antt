@@ -91,8 +91,8 @@ pub command_in_determined : (c : List ℕ) (pending application : Bool) (file : 
     → Determined (λ (r : Ordered). (r ≡ ordered c pending application file) × (ordered_number r ≡ ordered_number (ordered c pending application file)))
 command_in_determined c pending application file r q p h = once r q p.0 h.0
 
-pub key-status_determined : (k : ℕ) → Determined (λ (r : ℕ). r ≡ key_status k)
-key-status_determined k = once
+pub key_status_determined : (k : ℕ) → Determined (λ (r : ℕ). r ≡ key_status k)
+key_status_determined k = once
 
 -- ---- replies
 pub give_text_determined : (tag : Tag) (status : ℕ) (e : List ℕ) (cost : ℕ) → DeterminedText (λ (r : Done). Gives (room_given cost tag status e) r)
@@ -123,8 +123,8 @@ pub next_determined : (tag : Tag) (x random : List ℕ) → DeterminedText (λ (
 next_determined tag x random = gives_once
 
 -- ---- keyring
-pub change-key_determined : (tag : Tag) (k : ℕ) (p : List ℕ) → DeterminedText (λ (r : Done). Gives (changed_key tag k p) r)
-change-key_determined tag k p = gives_once
+pub change_key_determined : (tag : Tag) (k : ℕ) (p : List ℕ) → DeterminedText (λ (r : Done). Gives (changed_key tag k p) r)
+change_key_determined tag k p = gives_once
 
 pub key_version_determined : (tag : Tag) (k : ℕ) (m : Mode) → DeterminedText (λ (r : Done). Gives (key_version tag k m) r)
 key_version_determined tag k m = gives_once
