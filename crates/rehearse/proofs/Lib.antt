@@ -1,2 +1,1 @@
-pub mod Descriptors
 pub mod Walking
