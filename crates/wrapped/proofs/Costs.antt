@@ -1,6 +1,6 @@
 -- What the command's own answer costs at most: two blocks where it came with data, the MAC of a reply without any; else 33.
 use mathlib.Core.Bool.{false}
-use mathlib.Core.List.{List, [], ◌∷◌}
+use mathlib.Core.List.{List}
 use Prim.Native.Nat.{ℕ, ◌≤◌}
 use native.Mathlib.Omega.{arith}
 use native.Mathlib.Nat.{le_trans}

@@ -1,12 +1,9 @@
 -- Wrapped commands: a message, opened, is step 9's answer.
-use mathlib.Core.Path.{◌≡◌, refl, sym, ap, ap₂, subst, ◌∙◌}
-use mathlib.Core.List.{List, [], ◌∷◌}
+use mathlib.Core.Path.{◌≡◌, refl, sym, ap, ap₂, ◌∙◌}
+use mathlib.Core.List.{List}
 use Prim.Native.Nat.{ℕ, ◌≤◌}
 use native.Mathlib.Omega.{arith}
-use denote.Enum.Declared.{tag_of}
-use types.Run.{OneOf}
 use borrow.Author.Tests.{le-ltb}
-use lib.Dec.{lit≤}
 use lib.ListN.{length, take, drop, length-append}
 use lib.Seq.{take-append_seam}
 use Rattle.state.specs.State.{session_of}
@@ -18,15 +15,12 @@ use Rattle.opening.specs.declared.OpenedFor.{OpenedFor}
 use Rattle.opening.specs.declared.Opened.TheVariants.{Data}
 use Rattle.messaging.specs.Protect.{Opening, plain, wrong_length, wrong_mac, wrong_padding}
 use Rattle.opening.specs.Command.{opening, opening_cost, opened_status, told, left, answers, leaves, costs, Opens}
-use Rattle.opening.specs.contracts.Opened.{the_type}
 use Rattle.spans.specs.declared.Reading.{Reading}
 use Rattle.order.specs.declared.Command.{Command}
 use Rattle.order.specs.declared.Name.{Name}
 use Rattle.order.specs.declared.Name.TheVariants.{AuthenticateFirst, AuthenticateNonFirst, PartTwo, ChangeKey, GetKeyVersion, GetCardUid}
 use Rattle.order.specs.declared.Name.TheVariants.{GetFileSettings, ChangeFileSettings, GetFileCounters, ReadData, WriteData}
 use Rattle.order.specs.declared.Name.TheVariants.{IsoSelectFile, IsoReadBinary, IsoUpdateBinary}
-use Rattle.order.specs.contracts.Name.{the_type as names}
-use Rattle.order.proofs.Keys.{each, no_key}
 use Rattle.access.specs.declared.Decision.{Decision}
 use Rattle.state.specs.declared.Tag.{Tag}
 use Rattle.replies.specs.Answer.{refusal}
@@ -69,20 +63,17 @@ on_opened {x} {old} {new} {o} {i} {s} {n} t k r d random h f g e =
     ap (on_opening t k r d random) (sym (front o s.opened old new n (opens_told h f g) (opens_left h f g) e).1)
 
 -- a command that is not opened is refused with what the answer says
-refused : (o : Opening) (s : Opened) (t : Tag) (k : Command) (r : Reading) (d : Decision) (random : List ℕ) → s ≡ told o → 1 ≤ tag_of the_type s
+refused : (o : Opening) (s : Opened) (t : Tag) (k : Command) (r : Reading) (d : Decision) (random : List ℕ) → s ≡ told o → ((n : ℕ) → s ≡ Data n → ⊥)
     → refusal t (opened_status s) ≡ on_opening t k r d random o
-refused (plain p) s t k r d random e h =
-    let z : 1 ≤ tag_of the_type (Data (length p)) = subst (λ i. 1 ≤ tag_of the_type i) e h in absurd (omega arith)
+refused (plain p) s t k r d random e h = absurd (h (length p) e)
 refused wrong_length s t k r d random e h = ap (λ i. refusal t (opened_status i)) e
 refused wrong_mac s t k r d random e h = ap (λ i. refusal t (opened_status i)) e
 refused wrong_padding s t k r d random e h = ap (λ i. refusal t (opened_status i)) e
 
 pub on_refused : {x old new : List ℕ} {o : Opening} {i : ℕ} {s : OpenedFor} (t : Tag) (k : Command) (r : Reading) (d : Decision) (random : List ℕ)
-    → Opens x o i old s new → length x ≤ 255 → length x ≤ length old → OneOf (1 ∷ 2 ∷ 3 ∷ 4 ∷ 5 ∷ []) (tag_of the_type s.opened)
+    → Opens x o i old s new → length x ≤ 255 → length x ≤ length old → ((n : ℕ) → s.opened ≡ Data n → ⊥)
     → refusal t (opened_status s.opened) ≡ on_opening t k r d random o
-on_refused {x} {old} {new} {o} {i} {s} t k r d random h f g j =
-    refused o s.opened t k r d random (opens_told h f g)
-    (each (λ j. 1 ≤ j) (1 ∷ 2 ∷ 3 ∷ 4 ∷ 5 ∷ []) (tag_of the_type s.opened) j (lit≤ tt, (lit≤ tt, (lit≤ tt, (lit≤ tt, (lit≤ tt, tt))))))
+on_refused {x} {old} {new} {o} {i} {s} t k r d random h f g j = refused o s.opened t k r d random (opens_told h f g) j
 
 -- the session's own part is all that a message is opened with
 pub same_opening : (t : Tag) (k : Command) (r : Reading) (d : Decision) (x random : List ℕ) (s : Session) → s ≡ session_of t.live
@@ -93,24 +84,32 @@ pub same_cost : (t : Tag) (k : Command) (d : Decision) (x : List ℕ) (s : Sessi
     → opening_cost s d.mode k.ins x k.header k.parted ≡ opening_cost_of t k x d.mode
 same_cost t k d x s e = ap (λ i. opening_cost i d.mode k.ins x k.header k.parted) e
 
--- ---- step 9: the commands without a message, by their places among the fourteen
-abbrev messageless : List ℕ
-messageless = 0 ∷ 1 ∷ 2 ∷ 11 ∷ 12 ∷ 13 ∷ []
+-- ---- step 9: the commands without a message
+-- none of those that bring one
+pub record Messageless (n : Name) : Type 0 where
+  pub no_change_key : n ≡ ChangeKey → ⊥
+  pub no_key_version : n ≡ GetKeyVersion → ⊥
+  pub no_card_uid : n ≡ GetCardUid → ⊥
+  pub no_settings : n ≡ GetFileSettings → ⊥
+  pub no_change : n ≡ ChangeFileSettings → ⊥
+  pub no_counters : n ≡ GetFileCounters → ⊥
+  pub no_read : n ≡ ReadData → ⊥
+  pub no_write : n ≡ WriteData → ⊥
 
 pub others_refused : (n : Name) (t : Tag) (k : Command) (r : Reading) (d : Decision) (p random : List ℕ)
-    → OneOf (0 ∷ 1 ∷ 2 ∷ 11 ∷ 12 ∷ 13 ∷ []) (tag_of names n) → refusal t illegal_command_code ≡ own n t k r d p random
+    → Messageless n → refusal t illegal_command_code ≡ own n t k r d p random
 unfolding own one_of
 others_refused AuthenticateFirst t k r d p random h = refl
 others_refused AuthenticateNonFirst t k r d p random h = refl
 others_refused PartTwo t k r d p random h = refl
-others_refused ChangeKey t k r d p random h = absurd (no_key messageless 3 h refl)
-others_refused GetKeyVersion t k r d p random h = absurd (no_key messageless 4 h refl)
-others_refused GetCardUid t k r d p random h = absurd (no_key messageless 5 h refl)
-others_refused GetFileSettings t k r d p random h = absurd (no_key messageless 6 h refl)
-others_refused ChangeFileSettings t k r d p random h = absurd (no_key messageless 7 h refl)
-others_refused GetFileCounters t k r d p random h = absurd (no_key messageless 8 h refl)
-others_refused ReadData t k r d p random h = absurd (no_key messageless 9 h refl)
-others_refused WriteData t k r d p random h = absurd (no_key messageless 10 h refl)
+others_refused ChangeKey t k r d p random h = absurd (h.no_change_key refl)
+others_refused GetKeyVersion t k r d p random h = absurd (h.no_key_version refl)
+others_refused GetCardUid t k r d p random h = absurd (h.no_card_uid refl)
+others_refused GetFileSettings t k r d p random h = absurd (h.no_settings refl)
+others_refused ChangeFileSettings t k r d p random h = absurd (h.no_change refl)
+others_refused GetFileCounters t k r d p random h = absurd (h.no_counters refl)
+others_refused ReadData t k r d p random h = absurd (h.no_read refl)
+others_refused WriteData t k r d p random h = absurd (h.no_write refl)
 others_refused IsoSelectFile t k r d p random h = refl
 others_refused IsoReadBinary t k r d p random h = refl
 others_refused IsoUpdateBinary t k r d p random h = refl

@@ -56,4 +56,15 @@ returns-in-WriteData c =
 pub returns-in_default : goal.returns-in_default
 returns-in_default c =
     let a = c.args in
-    gives_as c.refuse.ensures (others_refused a.name a.tag a.k a.r a.d a.p.now a.random c.in_default.is)
+    let d = c.in_default in
+    gives_as c.refuse.ensures
+    (others_refused a.name a.tag a.k a.r a.d a.p.now a.random (record {
+      no_change_key = d.not-ChangeKey;
+      no_key_version = d.not-GetKeyVersion;
+      no_card_uid = d.not-GetCardUid;
+      no_settings = d.not-GetFileSettings;
+      no_change = d.not-ChangeFileSettings;
+      no_counters = d.not-GetFileCounters;
+      no_read = d.not-ReadData;
+      no_write = d.not-WriteData;
+    }))
