@@ -1,10 +1,8 @@
 -- The way of a command: each step as the next one's answer.
 use mathlib.Core.Path.{◌≡◌, refl, sym, ap, ◌∙◌}
 use mathlib.Core.Bool.{Bool, true, false}
-use mathlib.Core.List.{List, [], ◌∷◌}
+use mathlib.Core.List.{List}
 use Prim.Native.Nat.{ℕ}
-use denote.Enum.Declared.{tag_of}
-use types.Run.{OneOf}
 use borrow.Author.Tests.{eq-eqb, ne_eqb}
 use lib.Dec.{eqb}
 use Rattle.base.specs.Decide.{pick, and, one_of}
@@ -15,8 +13,6 @@ use Rattle.order.specs.declared.Name.TheVariants.{AuthenticateFirst, Authenticat
 use Rattle.order.specs.declared.Name.TheVariants.{GetFileSettings, ChangeFileSettings, GetFileCounters, ReadData, WriteData}
 use Rattle.order.specs.declared.Name.TheVariants.{IsoSelectFile, IsoReadBinary, IsoUpdateBinary}
 use Rattle.order.specs.declared.Command.{Command}
-use Rattle.order.specs.contracts.Name.{the_type as names}
-use Rattle.order.proofs.Keys.{no_key}
 use Rattle.access.specs.declared.Decision.{Decision}
 use Rattle.access.specs.Access.{decided}
 use Rattle.state.specs.declared.Tag.{Tag}
@@ -56,16 +52,19 @@ pub decided_next : (t : Tag) (k : Command) (r : Reading) (x random : List ℕ) (
 unfolding from_step6
 decided_next t k r x random d e = ap (λ i. on_grant i.grant t k r i x random) e
 
--- ---- the commands with an access step, by their places among the fourteen
-abbrev asking : List ℕ
-asking = 3 ∷ 4 ∷ 5 ∷ 6 ∷ 7 ∷ 8 ∷ 9 ∷ 10 ∷ 12 ∷ 13 ∷ []
+-- ---- the commands with an access step: none of those without one
+pub record Asking (n : Name) : Type 0 where
+  pub no_first : n ≡ AuthenticateFirst → ⊥
+  pub no_next : n ≡ AuthenticateNonFirst → ⊥
+  pub no_part_two : n ≡ PartTwo → ⊥
+  pub no_select : n ≡ IsoSelectFile → ⊥
 
 pub others_asked : (n : Name) (t : Tag) (k : Command) (r : Reading) (x random : List ℕ)
-    → OneOf (3 ∷ 4 ∷ 5 ∷ 6 ∷ 7 ∷ 8 ∷ 9 ∷ 10 ∷ 12 ∷ 13 ∷ []) (tag_of names n) → from_step6 t k r x random ≡ commanded n t k r x random
+    → Asking n → from_step6 t k r x random ≡ commanded n t k r x random
 unfolding commanded one_of
-others_asked AuthenticateFirst t k r x random h = absurd (no_key asking 0 h refl)
-others_asked AuthenticateNonFirst t k r x random h = absurd (no_key asking 1 h refl)
-others_asked PartTwo t k r x random h = absurd (no_key asking 2 h refl)
+others_asked AuthenticateFirst t k r x random h = absurd (h.no_first refl)
+others_asked AuthenticateNonFirst t k r x random h = absurd (h.no_next refl)
+others_asked PartTwo t k r x random h = absurd (h.no_part_two refl)
 others_asked ChangeKey t k r x random h = refl
 others_asked GetKeyVersion t k r x random h = refl
 others_asked GetCardUid t k r x random h = refl
@@ -74,7 +73,7 @@ others_asked ChangeFileSettings t k r x random h = refl
 others_asked GetFileCounters t k r x random h = refl
 others_asked ReadData t k r x random h = refl
 others_asked WriteData t k r x random h = refl
-others_asked IsoSelectFile t k r x random h = absurd (no_key asking 11 h refl)
+others_asked IsoSelectFile t k r x random h = absurd (h.no_select refl)
 others_asked IsoReadBinary t k r x random h = refl
 others_asked IsoUpdateBinary t k r x random h = refl
 

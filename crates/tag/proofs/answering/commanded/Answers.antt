@@ -32,4 +32,7 @@ returns-in-IsoSelectFile c =
 pub returns-in_default : goal.returns-in_default
 returns-in_default c =
     let a = c.args in
-    gives_as c.from_step_6.ensures (others_asked a.name a.tag a.k a.r a.x.now a.random c.in_default.is)
+    let d = c.in_default in
+    gives_as c.from_step_6.ensures
+    (others_asked a.name a.tag a.k a.r a.x.now a.random
+    (record { no_first = d.not-AuthenticateFirst; no_next = d.not-AuthenticateNonFirst; no_part_two = d.not-PartTwo; no_select = d.not-IsoSelectFile }))

@@ -12,5 +12,5 @@ returns c =
     let y = c.answered-a in
     let u = answered a.tag a.command.now a.random.now in
     let given = subst (λ x. Gives (answered a.tag a.command.now x) y.result.done)
-    (c.put.ensures ∙ laid-whole a.random.now _ c.requires.tag_value.1.0) y.ensures.answer in
+    (c.put.ensures ∙ laid-whole a.random.now _ c.requires.random_len.0) y.ensures.answer in
     replies u y.result.done a.room.now _ _ given c.lay-n.ensures y.result.noted (noted a.tag a.command.now) y.ensures.noted
