@@ -1,0 +1,21 @@
+-- `playing::play` meets its contract.
+use mathlib.Core.Path.{ap}
+use Rattle.playing.proofs.Border.{wrong_plays, wrong_journal_lem, plays}
+use Rattle.playing.proofs.play.Goals as goal
+
+-- `playing::play` meets its contract.
+pub returns-then-state-ne684 : goal.returns-then-state-ne684
+returns-then-state-ne684 c =
+    let a = c.args in
+    wrong_plays a.state.now a.command.now a.random.now a.room.now a.journal.now c.if-state-ne684.true
+
+pub returns-then-journal-ne16 : goal.returns-then-journal-ne16
+returns-then-journal-ne16 c =
+    let a = c.args in
+    wrong_journal_lem a.state.now a.command.now a.random.now a.room.now a.journal.now c.if-state-ne684.false c.if-journal-ne16.true
+
+pub returns : goal.returns
+returns c =
+    let a = c.args in
+    plays a.state.now a.command.now a.random.now a.room.now a.journal.now _ _ _ _ _ c.if-state-ne684.false c.if-journal-ne16.false
+    (ap (λ x. x.tag) c.from_image-read.ensures.told) c.answer.ensures
