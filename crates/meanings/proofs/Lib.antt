@@ -1,5 +1,6 @@
 pub mod Bits
 pub mod Examples
+pub mod GoodForm
 pub mod Kept
 pub mod Mirrors
 pub mod NormalForm

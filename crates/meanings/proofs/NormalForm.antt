@@ -173,7 +173,3 @@ normal-rules n s =
 pub normal-judged : (n : ℕ) (s : List ℕ) → judged n (normal s) ≡ judged n s
 unfolding judged
 normal-judged n s = ap (λ l. by_fault n WrongFile (verdict_of (found l))) (normal-rules n s)
-
--- A normal form is good and its own normal form
-pub normal-good : (n : ℕ) (s : List ℕ) → judged n s ≡ Good → (judged n (normal s) ≡ Good) × (normal (normal s) ≡ normal s)
-normal-good n s e = (normal-judged n s ∙ e, normal_twice s)

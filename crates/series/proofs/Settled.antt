@@ -22,7 +22,8 @@ use Rattle.fields.specs.Fields.{read_of, head_of, sdm_on}
 use Rattle.spans.specs.Spans.{reading_of}
 use Rattle.rules.specs.Rules.{found, sdm_file, rules}
 use Rattle.meanings.proofs.Kept.{front_kept}
-use Rattle.meanings.proofs.NormalForm.{normal-length, normal_twice, normal-good}
+use Rattle.meanings.proofs.GoodForm.{normal-good}
+use Rattle.meanings.proofs.NormalForm.{normal-length, normal_twice}
 use Rattle.meanings.proofs.Mirrors.{good_length}
 use Rattle.state.specs.declared.Files.{Files}
 use Rattle.state.specs.declared.Tapping.{Tapping}
