@@ -1,5 +1,4 @@
 -- `talks::play_all` is safe and ends: each turn passes a line, and no more exchanges are counted than bytes passed.
-use Prim.Native.Nat.{◌-◌}
 use native.Mathlib.Omega.{arith}
 use Rattle.talks.proofs.Walking.{next_within, after_within, after_on, inside}
 use Rattle.talks.proofs.play_all.Goals as goal
