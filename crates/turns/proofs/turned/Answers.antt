@@ -11,12 +11,12 @@ use Rattle.turns.proofs.turned.Goals as goal
 pub slice_bounds-reply-end : goal.slice_bounds-reply-end
 slice_bounds-reply-end c =
     let carry-out = c.carry_out-a in
-    let k : length carry-out.result.room ≡ 258 = search rules in omega (arith, carry-out.ensures.1)
+    let k : length carry-out.result.room ≡ 258 = search rules in omega (arith, carry-out.ensures.short)
 
 pub slice_bounds-line_text-end : goal.slice_bounds-line_text-end
 slice_bounds-line_text-end c =
     let carry-out = c.carry_out-a in
-    let k : length carry-out.result.room ≡ 258 = search rules in simp length-take (omega (arith, carry-out.ensures.1))
+    let k : length carry-out.result.room ≡ 258 = search rules in simp length-take (omega (arith, carry-out.ensures.short))
 
 pub returns : goal.returns
 unfolding told_of
