@@ -97,8 +97,19 @@ fn read_link<R: Files + Alloc>(rt: &R, path: &[u8], room: &mut [u8]) -> io::Resu
     Ok(forms::append(to.as_str().as_bytes(), room, 0))
 }
 
-// The name of an open file, links followed, at the front of the room, and its length; 0 where the machine doesn't tell.
-fn name_of<R: Files + Alloc>(rt: &R, fd: i32, room: &mut [u8]) -> usize
+// A path that is no link, at the front of the room, and its length; 0 for a link.
+fn unlinked(rt: &impl Files, path: &[u8], room: &mut [u8]) -> usize
+    ensures { IsPrefixLen result room.new }
+{
+    if is_link(rt, path) {
+        return 0;
+    }
+    forms::append(path, room, 0)
+}
+
+// The name of the open file that a path leads to, links followed, at the front of the room, and its length; 0 where the machine doesn't
+// tell. A name that is no text can't be opened again, but a path that is no link is name enough.
+fn name_of<R: Files + Alloc>(rt: &R, fd: i32, path: &[u8], room: &mut [u8]) -> usize
     ensures { IsPrefixLen result room.new }
 {
     if fd < 0 {
@@ -109,7 +120,12 @@ fn name_of<R: Files + Alloc>(rt: &R, fd: i32, room: &mut [u8]) -> usize
     let n = forms::append_form(b"/proc/self/fd/#", &[number], &[true], &mut p, 0);
     match read_link(rt, &p[..n], room) {
         Ok(m) => m,
-        Err(_) => 0,
+        Err(e) => {
+            if e.kind() == ErrorKind::InvalidFilename {
+                return unlinked(rt, path, room);
+            }
+            0
+        }
     }
 }
 
@@ -138,7 +154,7 @@ where
         Ok(file) => file,
         Err(e) => return missing(rt, err, path, e, room),
     };
-    let n = name_of(rt, file.as_raw_fd(), room);
+    let n = name_of(rt, file.as_raw_fd(), path, room);
     drop(file);
     if n == 0 {
         refuse(err, path, b"/proc/self/fd does not tell its name");
