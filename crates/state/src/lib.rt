@@ -1,5 +1,4 @@
-// The state of a tag, by value, without enums: every state can be written down, and `soundness` judges it. With it its parts
-// and what ends.
+// The state of a tag, by value: every state can be written down, and `soundness` judges it. With it its parts and what ends.
 #![tactic(auto)]
 
 mod parts;
@@ -26,6 +25,7 @@ pub struct Secrets {
 }
 
 // A session. One that has ended holds zeros.
+// No Option here and below: an image with `on` 0 and other bytes not 0 is a state too, and is read back as it is (theorem `read_image`).
 #[derive(Clone, Copy)]
 pub struct Live {
     pub on: bool,

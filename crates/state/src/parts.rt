@@ -9,6 +9,7 @@ use messaging::Session;
 use spans::Reading;
 
 // Where a file's bytes begin; behind the last for any other number.
+#[tactic(auto, unfolding(crate::specs::State::start_of))]
 pub fn file_start(n: u8) -> usize
     ensures { result ≡ start_of n }
 {
@@ -21,6 +22,7 @@ pub fn file_start(n: u8) -> usize
 }
 
 // How many bytes a file has; none for any other number.
+#[tactic(auto, unfolding(crate::specs::State::size_of))]
 pub fn file_size(n: u8) -> usize
     ensures { result ≡ size_of n }
 {
@@ -33,6 +35,7 @@ pub fn file_size(n: u8) -> usize
 }
 
 // A file's place among the settings; behind the last for any other number.
+#[tactic(auto, unfolding(crate::specs::State::slot_of))]
 pub fn slot_of(n: u8) -> usize
     ensures { result ≡ slot_of n }
 {
@@ -48,61 +51,62 @@ pub fn slot_of(n: u8) -> usize
 fn string_len(lens: [u8; 3], i: usize) -> usize
     ensures { result ≡ pick (leb (byte_at lens i) 27) (byte_at lens i) 27 }
 {
-    let n = base::at(&lens, i) as usize;
-    if n <= 27 {
-        return n;
-    }
-    27
+    usize::from(base::at(&lens, i)).min(27)
 }
 
 // The settings string of a file.
+#[tactic(auto, using(crate::proofs::Strings::slot_small, crate::proofs::Strings::cut_small, crate::proofs::Strings::cut_fits))]
 pub fn string_in(rules: &[u8; 81], lens: [u8; 3], n: u8) -> &[u8]
     ensures { result.now ≡ string_at rules.now lens n }
 {
-    let all = &rules[..];
     let i = slot_of(n);
     let at = i * 27;
-    let end = at + string_len(lens, i);
-    &all[at..end]
+    &rules[at..at + string_len(lens, i)]
 }
 
 // What a file's settings mean.
+#[tactic(auto, unfolding(crate::specs::State::reading_in, crate::specs::State::rules_of))]
 pub fn reading_in(f: Files, n: u8) -> Reading
     ensures { result ≡ reading_in f n }
 {
-    let rules = f.rules;
-    let lens = f.lens;
-    spans::meaning(string_in(&rules, lens, n))
+    spans::meaning(string_in(&f.rules, f.lens, n))
 }
 
 // Key k, and zeros for a number over 4.
+#[tactic(auto, unfolding(crate::specs::State::key_in))]
 pub fn key_of(keys: [u8; 80], k: u8) -> [u8; 16]
     ensures { result ≡ key_in keys k }
 {
-    let mut r = [0u8; 16];
+    let mut r = [0; 16];
     if k <= 4 {
-        let at = k as usize * 16;
-        base::put(&keys[at..at + 16], &mut r, 0);
+        let at = usize::from(k) * 16;
+        r.copy_from_slice(&keys[at..at + 16]);
     }
     r
 }
 
 // What protects the messages of a session.
+#[tactic(auto, unfolding(crate::specs::State::session_of))]
 pub fn session_of(l: Live) -> Session
     ensures { result ≡ session_of l }
 {
-    let enc = l.enc;
-    let mac = l.mac;
-    let ti = l.ti;
+    let Live {
+        enc,
+        mac,
+        ti,
+        counter,
+        ..
+    } = l;
     Session {
         enc,
         mac,
         ti,
-        counter: l.counter,
+        counter,
     }
 }
 
 // No session.
+#[tactic(auto, unfolding(crate::specs::State::no_live))]
 pub fn no_live() -> Live
     ensures { result ≡ no_live }
 {
@@ -117,6 +121,7 @@ pub fn no_live() -> Live
 }
 
 // No part two pending.
+#[tactic(auto, unfolding(crate::specs::State::no_pending))]
 pub fn no_pending() -> Pending
     ensures { result ≡ no_pending }
 {
@@ -132,6 +137,7 @@ pub fn no_pending() -> Pending
 }
 
 // No tap; the counter stays.
+#[tactic(auto, unfolding(crate::specs::State::quieted))]
 pub fn quiet(t: Tapping) -> Tapping
     ensures { result ≡ quieted t }
 {
@@ -144,18 +150,20 @@ pub fn quiet(t: Tapping) -> Tapping
 }
 
 // The tag with another session and pending part, and no tap.
+#[tactic(auto, unfolding(crate::specs::State::talking))]
 pub fn talking(tag: Tag, l: Live, p: Pending) -> Tag
     ensures { result ≡ talking tag l p }
 {
-    let mut t = tag;
-    let q = quiet(t.tap);
-    t.live = l;
-    t.pending = p;
-    t.tap = q;
-    t
+    Tag {
+        live: l,
+        pending: p,
+        tap: quiet(tag.tap),
+        ..tag
+    }
 }
 
 // Session, pending part two and tap have ended.
+#[tactic(auto, unfolding(crate::specs::State::ended_of))]
 pub fn ended(tag: Tag) -> Tag
     ensures { result ≡ ended_of tag }
 {
