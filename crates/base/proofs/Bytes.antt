@@ -1,13 +1,13 @@
 -- Laws of the bytes that every floor reads, compares and lays.
 use mathlib.Core.Path.{◌≡◌, refl, sym, ap, ap₂, subst, ◌∙◌}
-use mathlib.Core.Bool.{Bool, true, false}
+use mathlib.Core.Bool.{Bool, true, false, ◌&&◌}
 use mathlib.Core.List.{List, [], ◌∷◌, ◌++◌, append_assoc, append-nil}
 use Prim.Native.Nat.{ℕ, zero, suc, ◌+◌, ◌-◌, ◌≤◌, ◌<◌}
 use native.Mathlib.Omega.{arith}
-use native.Mathlib.Numerals.{add-one}
 use lib.Dec.{eqb, lit<}
+use lib.Pointwise.{pointwise}
 use lib.ListN.{length, get_or, take, drop, length-append, length-drop, replicate, drop_of_length-le}
-use lib.Seq.{get_or-drop, take-length, drop-cons, drop-append-add, drop-drop, take-append_seam, paste, length-paste}
+use lib.Seq.{get_or-drop, take-length, drop-append-add, drop-drop, take-append_seam, paste, length-paste}
 use borrow.Author.Tests.{le-leb, lt-leb, eq-eqb, ne_eqb, eqb-true}
 use mathlib.Core.Logic.{◌⊎◌, inl, inr, ⊎_elim}
 use native.Mathlib.Nat.{le_refl, sub-zero, zero-sub, suc-sub-suc}
@@ -17,23 +17,17 @@ use Rattle.base.specs.Bytes.{byte_at, AllBytes, same, laid, over, tab}
 
 pub ruleset tests = (borrow.Author.Tests.eq-eqb, borrow.Author.Tests.ne_eqb, borrow.Author.Tests.lt-ltb, borrow.Author.Tests.le-ltb, borrow.Author.Tests.le-leb, borrow.Author.Tests.lt-leb)
 
--- lists of different lengths are not the same
-pub same_lengths : (a b : List ℕ) → (length a ≡ length b → ⊥) → same a b ≡ false
+-- the library's comparison of two lists
+pub pointwise-same : (a b : List ℕ) → pointwise eqb a b ≡ same a b
 unfolding same
-same_lengths [] [] h = absurd (h refl)
-same_lengths [] (y ∷ ys) h = refl
-same_lengths (x ∷ xs) [] h = refl
-same_lengths (x ∷ xs) (y ∷ ys) h = rw (same_lengths xs ys (λ e. h (ap suc e))) (and_false (eqb x y))
+pointwise-same [] [] = refl
+pointwise-same [] (y ∷ ys) = refl
+pointwise-same (x ∷ xs) [] = refl
+pointwise-same (x ∷ xs) (y ∷ ys) = rw (pointwise-same xs ys) (both (eqb x y) (same xs ys))
   where
-    and_false : (t : Bool) → and t false ≡ false
-    and_false true = refl
-    and_false false = refl
-
--- one step of a comparison, at an index of both
-pub same_step : (a b : List ℕ) (i : ℕ) → i < length a → i < length b
-    → same (drop i a) (drop i b) ≡ and (eqb (get_or a i 0) (get_or b i 0)) (same (drop (i + 1) a) (drop (i + 1) b))
-unfolding same
-same_step a b i h k = rw (add-one, drop-cons a i 0 h, drop-cons b i 0 k)
+    both : (t u : Bool) → t && u ≡ and t u
+    both true u = refl
+    both false u = refl
 
 -- one of two numbers is at most the other
 pub le_or_lt : (a b : ℕ) → (a ≤ b) ⊎ (b < a)

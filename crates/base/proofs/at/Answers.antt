@@ -1,7 +1,0 @@
--- `base::at` meets its contract: past the end, `get_or` gives 0.
-use lib.ListN.{get_or-eq_default}
-use mathlib.Core.Path.{sym}
-use Rattle.base.proofs.at.Goals as goal
-
-pub returns : goal.returns
-returns c = sym (get_or-eq_default c.args.s.now 0 c.if-i-s.false)
