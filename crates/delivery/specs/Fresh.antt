@@ -1,14 +1,12 @@
 -- 01: "A fresh tag from a UID", and refusal 4.
-use Rattle.std.specs.Prelude.{Bool, true, false, List, [], ◌∷◌, ◌++◌, ◌≡◌, ℕ, eqb, length, replicate}
+use Rattle.std.specs.Prelude.{Bool, false, List, [], ◌∷◌, ◌++◌, ◌≡◌, ℕ, eqb, length, replicate, Result, Ok, Err}
 use Rattle.base.specs.Decide.{pick, and}
 use Rattle.base.specs.Bytes.{byte_at}
 use Rattle.state.specs.declared.Files.{Files}
 use Rattle.state.specs.declared.Secrets.{Secrets}
 use Rattle.state.specs.declared.Tapping.{Tapping}
 use Rattle.state.specs.declared.Tag.{Tag}
-use Rattle.delivery.specs.declared.Birth.{Birth}
-use Rattle.delivery.specs.declared.Made.{Made}
-use Rattle.delivery.specs.declared.Made.TheVariants.{Fresh, WrongUid}
+use Rattle.delivery.specs.declared.WrongUid.{WrongUid}
 use Rattle.state.specs.State.{no_live, no_pending, no_padding}
 
 -- file 1 as delivered, with nine zeros
@@ -43,7 +41,7 @@ no_secrets = record { keys = replicate 80 0; versions = replicate 5 0 }
 abbrev pub no_tap : Tapping
 no_tap = record { on = false; iso = false; counter = 0; padding = no_padding }
 
--- every byte and number 0
+-- every byte and number 0: what stands for bytes that hold no state
 unfoldable pub blank : Tag
 blank =
     record {
@@ -74,13 +72,13 @@ unfoldable pub right_uid : List ℕ → Bool
 right_uid uid = and (eqb (length uid) 7) (eqb (byte_at uid 0) 4)
 
 -- 01's number of what a UID gives: refusal 4; 0 where there is a tag
-unfoldable pub made_number : Made → ℕ
-made_number Fresh = 0
-made_number WrongUid = 4
+unfoldable pub made_number : Result Tag WrongUid → ℕ
+made_number (Ok t) = 0
+made_number (Err e) = 4
 
-unfoldable pub born : List ℕ → Birth
-born uid = pick (right_uid uid) (record { made = Fresh; tag = fresh_tag uid }) (record { made = WrongUid; tag = blank })
+unfoldable pub born : List ℕ → Result Tag WrongUid
+born uid = pick (right_uid uid) (Ok (fresh_tag uid)) (Err (record {}))
 
-pub record Births (uid : List ℕ) (r : Birth) : Type 0 where
-  pub number : made_number r.made ≡ pick (right_uid uid) 0 4
+pub record Births (uid : List ℕ) (r : Result Tag WrongUid) : Type 0 where
+  pub number : made_number r ≡ pick (right_uid uid) 0 4
   pub told : r ≡ born uid

@@ -1,8 +1,8 @@
 // A fresh tag: the delivery contents and rights, small constant tables copied into it.
 ghost use Rattle.std.specs.Prelude.{◌≡◌};
-ghost use Rattle.delivery.specs.Fresh.{blank, delivered_files, Births};
+ghost use Rattle.delivery.specs.Fresh.{delivered_files, Births};
 
-use crate::{Birth, Made};
+use crate::WrongUid;
 use state::{Files, Place, Secrets, Tag, Tapping};
 
 // File 1 as delivered.
@@ -17,17 +17,36 @@ const SECOND: [u8; 3] = [0x00, 0xE0, 0xEE];
 
 const THIRD: [u8; 3] = [0x03, 0x30, 0x23];
 
-// Every byte and number 0.
-fn zeroed() -> Tag
-    ensures { result ≡ blank }
+// The files as delivered.
+fn delivered() -> Files
+    ensures { result ≡ delivered_files }
 {
-    Tag {
-        uid: [0; 7],
-        files: Files {
-            bytes: [0; 416],
-            rules: [0; 81],
-            lens: [0; 3],
-        },
+    let mut bytes = [0; 416];
+    bytes[..23].copy_from_slice(&CONTAINER);
+    let mut rules = [0; 81];
+    rules[..3].copy_from_slice(&FIRST);
+    rules[27..30].copy_from_slice(&SECOND);
+    rules[54..57].copy_from_slice(&THIRD);
+    Files {
+        bytes,
+        rules,
+        lens: [3, 3, 3],
+    }
+}
+
+// A fresh tag with a UID, or refusal 4.
+#[tactic(auto, unfolding(crate::specs::Fresh::born, crate::specs::Fresh::right_uid, crate::specs::Fresh::made_number, crate::specs::Fresh::fresh_tag))]
+pub fn fresh(uid: &[u8]) -> Result<Tag, WrongUid>
+    ensures { Births uid.now result }
+{
+    if uid.len() != 7 || uid[0] != 4 {
+        return Err(WrongUid);
+    }
+    let mut own = [0; 7];
+    own.copy_from_slice(uid);
+    Ok(Tag {
+        uid: own,
+        files: delivered(),
         secrets: Secrets {
             keys: [0; 80],
             versions: [0; 5],
@@ -44,49 +63,5 @@ fn zeroed() -> Tag
             counter: 0,
             padding: [0; 12],
         },
-    }
-}
-
-fn delivered() -> Files
-    ensures { result ≡ delivered_files }
-{
-    let mut bytes = [0u8; 416];
-    let mut rules = [0u8; 81];
-    base::put(&CONTAINER, &mut bytes, 0);
-    base::put(&FIRST, &mut rules, 0);
-    base::put(&SECOND, &mut rules, 27);
-    base::put(&THIRD, &mut rules, 54);
-    Files {
-        bytes,
-        rules,
-        lens: [3, 3, 3],
-    }
-}
-
-// A fresh tag with a UID.
-pub fn fresh(uid: &[u8]) -> Birth
-    ensures { Births uid.now result }
-{
-    let mut t = zeroed();
-    if uid.len() != 7 {
-        return Birth {
-            made: Made::WrongUid,
-            tag: t,
-        };
-    }
-    if uid[0] != 4 {
-        return Birth {
-            made: Made::WrongUid,
-            tag: t,
-        };
-    }
-    let mut u = [0u8; 7];
-    base::put(uid, &mut u, 0);
-    let f = delivered();
-    t.uid = u;
-    t.files = f;
-    Birth {
-        made: Made::Fresh,
-        tag: t,
-    }
+    })
 }

@@ -5,7 +5,7 @@ mod answering;
 mod entry;
 
 use access::Noted;
-pub use delivery::{Birth, Made, fresh};
+pub use delivery::{WrongUid, fresh};
 pub use entry::call;
 pub use state::Tag;
 
