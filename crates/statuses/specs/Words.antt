@@ -18,14 +18,14 @@ status_word status.BoundaryError = named.boundary_error
 status_word status.CommandAborted = named.command_aborted
 status_word status.FileNotFound = named.file_not_found
 status_word status.IsoNormal = named.iso_normal
-status_word status.IsoWrongLength = named.iso_wrong_length
+status_word status.WrongLength = named.iso_wrong_length
 status_word status.IsoSecurity = named.iso_security
 status_word status.IsoConditions = named.iso_conditions
 status_word status.IsoWrongData = named.iso_wrong_data
 status_word status.IsoNotFound = named.iso_not_found
 status_word status.IsoWrongP1P2 = named.iso_wrong_p1_p2
 status_word status.IsoWrongLc = named.iso_wrong_lc
-status_word (status.IsoWrongLe there) = named.iso_wrong_le there
+status_word (status.WrongLe there) = named.iso_wrong_le there
 status_word status.IsoUnknownInstruction = named.iso_unknown_instruction
 status_word status.IsoUnknownClass = named.iso_unknown_class
 

@@ -1,0 +1,41 @@
+// Bytes of any length up to N, in fixed memory.
+#![tactic(auto)]
+
+ghost use Rattle.std.specs.Prelude.{[], ◌≡◌, take, replicate};
+ghost use Rattle.base.specs.Bytes.{over};
+ghost use Rattle.buffers.specs.Text.{text_of};
+
+mod buffer;
+
+pub use buffer::Buffer;
+
+impl<const N: usize> Buffer<N> {
+    // No text.
+    pub fn empty() -> Buffer<N>
+        ensures text { text_of result ≡ [] }
+        ensures zeros { result.bytes ≡ replicate N 0 }
+    {
+        Buffer {
+            bytes: [0; N],
+            length: 0,
+        }
+    }
+
+    // The first N bytes of a text, and zeros behind it.
+    pub fn of(text: &[u8]) -> Buffer<N>
+        ensures text { text_of result ≡ take N text.now }
+        ensures zeros { result.bytes ≡ over (take N text.now) (replicate N 0) }
+    {
+        let length = text.len().min(N);
+        let mut bytes = [0; N];
+        bytes[..length].copy_from_slice(&text[..length]);
+        Buffer { bytes, length }
+    }
+
+    // The text.
+    pub fn as_slice(&self) -> &[u8]
+        ensures { result.now ≡ text_of self.now }
+    {
+        &self.bytes[..self.length]
+    }
+}
