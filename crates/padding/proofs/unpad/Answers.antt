@@ -1,56 +1,30 @@
--- `padding::unpad` meets its contract: what is still to look at decides.
-use Rattle.padding.proofs.Padding.{told-status}
-use Rattle.padding.proofs.Unpadding.{mark-step}
-use Rattle.padding.specs.Padding.{mark, unpad, blocks}
-use borrow.Author.Tests.{eq-eqb, ne_eqb, le-leb, lt-leb}
-use lib.ListN.{length}
+-- The 80 that only zeros follow, looked for from the back.
+use Rattle.std.proofs.Common.{◌≡◌, refl, sym, ◌∙◌, ◌-◌, length, None}
+use Rattle.std.proofs.lemmas.Grind.{common_steps}
+use Rattle.base.specs.Bytes.{byte_at}
+use Rattle.padding.specs.Padding.{blocks, unpad}
+use Rattle.padding.proofs.Padding.{told_status}
+use Rattle.padding.proofs.Unpadding.{mark_step}
+use borrow.Author.Tests.{ne_eqb}
 use native.Mathlib.Omega.{arith}
-use mathlib.Core.Path.{◌≡◌, refl, sym, ◌∙◌}
 use Rattle.padding.proofs.unpad.Goals as goal
 
-pub returns-then-s-ne0 : goal.returns-then-s-ne0
+pub returns-then-s-ne0-clause-status : goal.returns-then-s-ne0-clause-status
 unfolding unpad blocks
-returns-then-s-ne0 c = record { told = (told-status c.args.s.now _ (rw (ne_eqb _ _ c.if-s-ne0.true) refl)).0; status = (told-status c.args.s.now _ (rw (ne_eqb _ _ c.if-s-ne0.true) refl)).1 }
+returns-then-s-ne0-clause-status c = told_status c.args.s.now None (grind (arith, common_steps))
 
-pub returns-then-s-lt16 : goal.returns-then-s-lt16
-unfolding unpad blocks
-returns-then-s-lt16 c = record {
-  told = (let s = c.args.s.now in
-      told-status s _ (rw (eq-eqb _ _ c.if-s-ne0.false, lt-leb 16 (length s) (omega arith)) refl)).0;
-  status = (let s = c.args.s.now in
-      told-status s _ (rw (eq-eqb _ _ c.if-s-ne0.false, lt-leb 16 (length s) (omega arith)) refl)).1;
-}
+pub loop-i-preserved : goal.loop-i-preserved
+loop-i-preserved c =
+    let s = c.args.s.now in
+    let i = c.loop-i.i in
+    let e : i - (length s - 16) - 1 ≡ i - 1 - (length s - 16) = omega arith in
+    c.loop-i.invariant ∙ mark_step (i - (length s - 16)) s i (omega arith) ∙ rw (c.in-0.is, e) refl
 
-pub loop-left-init : goal.loop-left-init
-unfolding unpad blocks
-loop-left-init c = (omega arith, omega arith, rw (eq-eqb _ _ c.if-s-ne0.false, le-leb 16 (length c.args.s.now) (omega arith)) refl)
+pub returns-in_default-clause-told : goal.returns-in_default-clause-told
+returns-in_default-clause-told c =
+    let s = c.args.s.now in
+    let i = c.loop-i.i in
+    sym (c.loop-i.invariant ∙ mark_step (i - (length s - 16)) s i (omega arith) ∙ rw (ne_eqb (byte_at s (i - 1)) 128 (omega arith), ne_eqb (byte_at s (i - 1)) 0 (omega arith)) refl)
 
-pub returns-then-b : goal.returns-then-b
-returns-then-b c = record {
-  told = (told-status c.args.s.now _
-      (sym (c.loop-left.invariant.2 ∙ mark-step c.loop-left.left c.args.s.now c.loop-left.n (omega arith) ∙ rw (eq-eqb _ _ c.if-b.true) refl))).0;
-  status = (told-status c.args.s.now _
-      (sym (c.loop-left.invariant.2 ∙ mark-step c.loop-left.left c.args.s.now c.loop-left.n (omega arith) ∙ rw (eq-eqb _ _ c.if-b.true) refl))).1;
-}
-
-pub returns-then-b-ne0 : goal.returns-then-b-ne0
-returns-then-b-ne0 c = record {
-  told = (told-status c.args.s.now _
-      (sym (c.loop-left.invariant.2 ∙ mark-step c.loop-left.left c.args.s.now c.loop-left.n (omega arith)
-      ∙ rw (ne_eqb _ _ c.if-b.false, ne_eqb _ _ c.if-b-ne0.true) refl))).0;
-  status = (told-status c.args.s.now _
-      (sym (c.loop-left.invariant.2 ∙ mark-step c.loop-left.left c.args.s.now c.loop-left.n (omega arith)
-      ∙ rw (ne_eqb _ _ c.if-b.false, ne_eqb _ _ c.if-b-ne0.true) refl))).1;
-}
-
-pub loop-left-preserved : goal.loop-left-preserved
-loop-left-preserved c = (
-  omega arith,
-  omega arith,
-  c.loop-left.invariant.2 ∙ mark-step c.loop-left.left c.args.s.now c.loop-left.n (omega arith)
-      ∙ rw (ne_eqb _ _ c.if-b.false, eq-eqb _ _ c.if-b-ne0.false) refl,
-)
-
-pub returns : goal.returns
-unfolding mark
-returns c = record { told = (told-status c.args.s.now _ (sym (c.loop-left.invariant.2 ∙ (let e : c.loop-left.left ≡ 0 = omega arith in rw e refl)))).0; status = (told-status c.args.s.now _ (sym (c.loop-left.invariant.2 ∙ (let e : c.loop-left.left ≡ 0 = omega arith in rw e refl)))).1 }
+pub returns-in_default-clause-status : goal.returns-in_default-clause-status
+returns-in_default-clause-status c = told_status c.args.s.now None (returns-in_default-clause-told c)
