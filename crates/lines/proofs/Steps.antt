@@ -2,7 +2,7 @@
 use mathlib.Core.Path.{◌≡◌, refl, sym, ap, ap₂, ◌∙◌}
 use mathlib.Core.Bool.{Bool, true, false}
 use mathlib.Core.List.{List, [], ◌∷◌, ◌++◌, append-nil}
-use Prim.Native.Nat.{ℕ, suc, ◌+◌, ◌*◌, ◌/◌, ◌%◌, ◌≤◌, ◌<◌}
+use Prim.Native.Nat.{ℕ, suc, ◌+◌, ◌-◌, ◌*◌, ◌/◌, ◌%◌, ◌≤◌, ◌<◌}
 use native.Mathlib.Nat.{add-zero}
 use native.Mathlib.Numerals.{add-one}
 use native.Mathlib.Omega.{arith}
@@ -13,21 +13,28 @@ use lib.Seq.{drop-cons, take-suc, take-suc-set, take_all, append_snoc, length-ta
 use borrow.Author.Tests.{eq-eqb, ne_eqb, le-leb}
 use Rattle.base.specs.Decide.{pick, and}
 use Rattle.base.specs.Bytes.{laid, over}
-use Rattle.base.proofs.Bytes.{le_or_lt, over_more}
+use denote.Ref.{Bor}
+use Rattle.std.specs.Slice.{IsGetRangeResult}
+use Rattle.std.specs.Prelude.{Option, None, Some, is_some, unwrap_or, ◌==◌, not, cond, ◌&&◌}
+use Rattle.std.specs.List.{list_all, position_or_len}
+use Rattle.base.proofs.Bytes.{le_or_lt, over_more, tests}
 use Rattle.lines.specs.Lines.{before, seek}
 use Rattle.lines.specs.Hex.{digit_of, char_of, is_hex, byte_of, bytes_of, chars_of, chars_room}
 
-pub seek-here : (s : List ℕ) (i b : ℕ) → i < length s → get_or s i 0 ≡ b → seek s i b ≡ i
-unfolding seek before
-seek-here s i b h e = rw (drop-cons s i 0 h, eq-eqb (get_or s i 0) b e) (add-zero i)
+-- the place that a search answers
+pub before_first : (b : ℕ) (s : List ℕ) → before b s ≡ position_or_len (λ x. x == b) s
+unfolding before
+before_first b [] = refl
+before_first b (x ∷ s) = by (eqb x b) (before_first b s)
+  where
+    by : (t : Bool) {m n : ℕ} → m ≡ n → pick t 0 (suc m) ≡ cond (not t) (1 + n) 0
+    by true e = refl
+    by false e = omega (arith, e)
 
-pub seek_next : (s : List ℕ) (i b : ℕ) → i < length s → (get_or s i 0 ≡ b → ⊥) → seek s i b ≡ seek s (i + 1) b
-unfolding seek before
-seek_next s i b h e = rw (add-one, drop-cons s i 0 h, ne_eqb (get_or s i 0) b e) (omega arith)
-
-pub seek_end : (s : List ℕ) (i b : ℕ) → length s ≤ i → seek s i b ≡ i
-unfolding seek before
-seek_end s i b h = rw (drop_of_length-le s {i = i} h) (add-zero i)
+-- what stands behind an index, and nothing past the end
+pub rest_of : (s : List ℕ) (i : ℕ) (r : Option (Bor (List ℕ))) (none : Bor (List ℕ)) → IsGetRangeResult s i (length s) r → none.now ≡ [] → (unwrap_or r none).now ≡ drop i s
+rest_of s i None none h e = e ∙ sym (drop_of_length-le s {i = i} (⊎_elim (λ k. omega arith) (λ k. omega arith) h.0))
+rest_of s i (Some x) none h e = h.0.2 ∙ take_all (length s - i) (drop i s) (omega (arith, length-drop i s))
 
 before_within : (b : ℕ) (s : List ℕ) → before b s ≤ length s
 unfolding before
@@ -47,6 +54,29 @@ pub seek_within : (s : List ℕ) (i b : ℕ) → i ≤ length s → seek s i b �
 unfolding seek
 seek_within s i b h = omega (arith, before_within b (drop i s), length-drop i s)
 
+-- an even number of characters, each of them a digit
+off : (v : Bool) → (v && false) ≡ false
+off true = refl
+off false = refl
+
+pub hex_all : (s : List ℕ) → is_hex s ≡ (eqb (length s % 2) 0 && list_all (λ c. is_some (digit_of c)) s)
+unfolding is_hex
+hex_all [] = refl
+hex_all (a ∷ []) = refl
+hex_all (a ∷ b ∷ s) =
+    let e : suc (suc (length s)) % 2 ≡ length s % 2 = omega arith in
+    by (is_some (digit_of a)) (is_some (digit_of b)) _ _ _ _ (ap (λ n. eqb n 0) (sym e)) (hex_all s)
+  where
+    by : (p q h u v w : Bool) → u ≡ v → h ≡ (u && w) → and (and p q) h ≡ (v && (p && (q && w)))
+    by true true h u v w e f = f ∙ ap (λ t. t && w) e
+    by true false h u v w e f = sym (off v)
+    by false q h u v w e f = sym (off v)
+
+-- a digit is below 16
+pub digit_below : (c : ℕ) → unwrap_or (digit_of c) 0 < 16
+unfolding digit_of
+digit_below c = grind (arith, tests)
+
 -- two characters on
 two_on : (s : List ℕ) (i : ℕ) → i * 2 + 1 < length s
     → drop (i * 2) s ≡ get_or s (i * 2) 0 ∷ get_or s (i * 2 + 1) 0 ∷ drop ((i + 1) * 2) s
@@ -56,20 +86,6 @@ two_on s i h =
     ∙ ap (λ l. get_or s (i * 2) 0 ∷ l)
     (drop-cons s (suc (i * 2)) 0 (omega arith)
     ∙ ap₂ (λ m n. get_or s m 0 ∷ drop n s) (sym (add-one (i * 2))) (sym e))
-
-pub hex_step : (s : List ℕ) (i : ℕ) → i * 2 + 1 < length s
-    → is_hex (drop (i * 2) s)
-    ≡ and (and (ltb (digit_of (get_or s (i * 2) 0)) 16) (ltb (digit_of (get_or s (i * 2 + 1) 0)) 16)) (is_hex (drop ((i + 1) * 2) s))
-unfolding is_hex
-hex_step s i h = rw (two_on s i h) refl
-
-pub hex_end : (s : List ℕ) (n : ℕ) → n * 2 ≤ length s → length s ≤ n * 2 + 1 → eqb (n * 2) (length s) ≡ is_hex (drop (n * 2) s)
-unfolding is_hex
-hex_end s n h k =
-    ⊎_elim
-    (λ (l : length s ≤ n * 2). rw (eq-eqb (n * 2) (length s) (omega arith), drop_of_length-le s {i = n * 2} l) refl)
-    (λ (l : n * 2 < length s). rw (ne_eqb (n * 2) (length s) (λ e. omega arith), drop-cons s (n * 2) 0 l, drop_of_length-le s {i = suc (n * 2)} (omega arith)) refl)
-    (le_or_lt (length s) (n * 2))
 
 pub bytes-step : (s : List ℕ) (i : ℕ) → i * 2 + 1 < length s
     → bytes_of (drop (i * 2) s) ≡ byte_of (get_or s (i * 2) 0) (get_or s (i * 2 + 1) 0) ∷ bytes_of (drop ((i + 1) * 2) s)
@@ -93,7 +109,7 @@ unfolding bytes_of is_hex
 bytes-length [] e = refl
 bytes-length (a ∷ []) e = let z : ◌≡◌ {A = ℕ} 0 1 = cc in omega arith
 bytes-length (a ∷ b ∷ s) e =
-    let t = bytes-length s (Rattle.base.proofs.Bytes.and_right (and (ltb (digit_of a) 16) (ltb (digit_of b) 16)) (is_hex s) e) in omega arith
+    let t = bytes-length s (Rattle.base.proofs.Bytes.and_right (and (is_some (digit_of a)) (is_some (digit_of b))) (is_hex s) e) in omega arith
 
 pub bytes_half : (s : List ℕ) → is_hex s ≡ true → length (bytes_of s) ≡ length s / 2
 bytes_half s e = let t = bytes-length s e in omega arith
