@@ -1,6 +1,6 @@
 -- 01, "Access and modes" (8.2.3, Tables 6 to 12), and 02, request 5: one decision for both classes, which says how it grants and under
 -- which right.
-use Rattle.std.specs.Prelude.{Bool, true, false, not, List, [], ◌∷◌, ℕ, eqb, leb}
+use Rattle.std.specs.Prelude.{Bool, true, false, not, List, [], ◌∷◌, Option, Some, None, ℕ, eqb, leb}
 use Rattle.base.specs.Decide.{pick, and}
 use Rattle.base.specs.Status.{operation_ok, permission_denied, authentication_error, iso_normal, iso_security}
 use Rattle.messaging.specs.declared.Mode.{Mode}
@@ -32,6 +32,11 @@ condition_of SdmCtrRet h = h.sdm_ctr_ret
 unfoldable pub first_of : ℕ → (Right → Grant) → List Right → Head → Grant → Grant
 first_of c so [] h rest = rest
 first_of c so (r ∷ rs) h rest = pick (eqb (condition_of r h) c) (so r) (first_of c so rs h rest)
+
+-- the first of these rights whose condition is c, if one is
+unfoldable pub first_with : ℕ → List Right → Head → Option Right
+first_with c [] h = None
+first_with c (r ∷ rs) h = pick (eqb (condition_of r h) c) (Some r) (first_with c rs h)
 
 -- every condition concerned is F, SDMFileRead too
 unfoldable pub all_never : List Right → Head → ℕ → Bool

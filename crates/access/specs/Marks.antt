@@ -1,11 +1,9 @@
 -- 02, request 5: what a journal notes of a call, by number (house).
-use Rattle.std.specs.Prelude.{ℕ}
+use Rattle.std.specs.Prelude.{Option, Some, None, ℕ}
 use Rattle.access.specs.declared.Right.{Right}
 use Rattle.access.specs.declared.Right.TheVariants.{Read, Write, ReadWrite, Change, SdmMetaRead, SdmFileRead, SdmCtrRet}
 use Rattle.access.specs.declared.Grant.{Grant}
 use Rattle.access.specs.declared.Grant.TheVariants.{ByKey, ByTap, Free, Unasked, Never, Denied}
-use Rattle.access.specs.declared.Noted.{Noted}
-use Rattle.access.specs.declared.Noted.TheVariants.{Unreached, Decided}
 use Rattle.access.specs.declared.Marks.{Marks}
 
 -- Table 9's order
@@ -37,6 +35,6 @@ granting_right Never = 0
 granting_right Denied = 0
 
 -- zeros where the decision was never got to
-unfoldable pub marks_of : Noted → Marks
-marks_of Unreached = record { how = 0; right = 0 }
-marks_of (Decided g) = record { how = how_number g; right = granting_right g }
+unfoldable pub marks_of : Option Grant → Marks
+marks_of None = record { how = 0; right = 0 }
+marks_of (Some g) = record { how = how_number g; right = granting_right g }

@@ -1,9 +1,8 @@
 // Access and mode (8.2.3, Tables 6 to 12).
-ghost use Rattle.std.specs.Prelude.{◌≡◌, not, [], ◌∷◌, eqb, leb};
-ghost use Rattle.base.specs.Decide.{pick, and};
-ghost use Rattle.messaging.specs.declared.Mode.TheVariants.{Plain, Mac};
-ghost use Rattle.access.specs.declared.Grant.TheVariants.{ByKey, ByTap, Free, Unasked, Never, Denied};
-ghost use Rattle.access.specs.Access.{condition_of, granted, read_grant, write_grant, change_grant, counter_grant, grant_for, file_mode, under_key, mode_for, reads, decided};
+ghost use Rattle.std.specs.Prelude.{◌≡◌, [], ◌∷◌};
+ghost use Rattle.base.specs.Decide.{pick};
+ghost use Rattle.access.specs.declared.Grant.TheVariants.{Unasked, Denied};
+ghost use Rattle.access.specs.Access.{condition_of, first_with, all_never, granted, read_grant, write_grant, grant_for, file_mode, under_key, mode_for, decided};
 
 use crate::{Decision, Grant, Right};
 use fields::Head;
@@ -12,10 +11,11 @@ use order::Name;
 use state::Live;
 
 // The condition of a right.
-fn condition(r: Right, h: Head) -> u8
-    ensures { result ≡ condition_of r h }
+#[tactic(auto, unfolding(crate::specs::Access::condition_of))]
+fn condition(right: Right, h: Head) -> u8
+    ensures { result ≡ condition_of right h }
 {
-    match r {
+    match right {
         Right::Read => h.read,
         Right::Write => h.write,
         Right::ReadWrite => h.read_write,
@@ -26,169 +26,102 @@ fn condition(r: Right, h: Head) -> u8
     }
 }
 
-// The key in a condition grants under its right; failing that, the rest decides.
-fn by_key(c: u8, key: u8, r: Right, rest: Grant) -> Grant
-    ensures { result ≡ pick (eqb c key) (ByKey r) rest }
+// The first of these rights whose condition is c.
+#[tactic(auto, unfolding(crate::specs::Access::first_with))]
+fn first_with(c: u8, asked: &[Right], h: Head) -> Option<Right>
+    ensures { result ≡ first_with c asked.now h }
 {
-    if c == key {
-        return Grant::ByKey(r);
+    for right in asked {
+        if condition(*right, h) == c {
+            return Some(*right);
+        }
     }
-    rest
+    None
 }
 
-// The same of E.
-fn by_e(c: u8, r: Right, rest: Grant) -> Grant
-    ensures { result ≡ pick (eqb c 14) (Free r) rest }
+// Whether every condition concerned is F, SDMFileRead too.
+#[tactic(auto, unfolding(crate::specs::Access::all_never))]
+fn all_never(asked: &[Right], h: Head, file: u8) -> bool
+    ensures { result ≡ all_never asked.now h file }
 {
-    if c == 14 {
-        return Grant::Free(r);
+    for right in asked {
+        if condition(*right, h) != 15 {
+            return false;
+        }
     }
-    rest
+    file == 15
 }
 
-// F in a condition, and in the rest.
-fn is_never(c: u8, rest: bool) -> bool
-    ensures { result ≡ and (eqb c 15) rest }
+// In session what the key grants; without one SDMFileRead 0 to 4 is a tap; failing that, what E grants.
+#[tactic(auto, using(crate::proofs::Rights::first_is), unfolding(crate::specs::Access::granted))]
+fn granted(l: Live, h: Head, asked: &[Right], file: u8) -> Grant
+    ensures { result ≡ granted l h asked.now file }
 {
-    if c == 15 {
-        return rest;
-    }
-    false
-}
-
-// Not granted: never where every condition is F.
-fn refused(never: bool) -> Grant
-    ensures { result ≡ pick never Never Denied }
-{
-    if never {
-        return Grant::Never;
-    }
-    Grant::Denied
-}
-
-// In session what the key grants; without one SDMFileRead 0 to 4 is a tap, failing that what E grants.
-fn by_session(live: bool, file: u8, keyed: Grant, free: Grant) -> Grant
-    ensures { result ≡ pick live keyed (pick (leb file 4) ByTap free) }
-{
-    if live {
-        return keyed;
-    }
-    if file <= 4 {
+    if l.on {
+        if let Some(right) = first_with(l.key, asked, h) {
+            return Grant::ByKey(right);
+        }
+    } else if file <= 4 {
         return Grant::ByTap;
     }
-    free
+    match first_with(14, asked, h) {
+        Some(right) => Grant::Free(right),
+        None if all_never(asked, h, file) => Grant::Never,
+        None => Grant::Denied,
+    }
 }
 
-// A command that looks at one right.
-fn one_right(l: Live, h: Head, a: Right) -> Grant
-    ensures { result ≡ granted l h (a ∷ []) 15 }
-{
-    let c = condition(a, h);
-    let free = by_e(c, a, refused(is_never(c, true)));
-    let keyed = by_key(c, l.key, a, free);
-    by_session(l.on, 15, keyed, free)
-}
-
-// A command that looks at two, and a read at SDMFileRead too.
-fn two_rights(l: Live, h: Head, a: Right, b: Right, file: u8) -> Grant
-    ensures { result ≡ granted l h (a ∷ b ∷ []) file }
-{
-    let c = condition(a, h);
-    let d = condition(b, h);
-    let none = refused(is_never(c, is_never(d, file == 15)));
-    let free = by_e(c, a, by_e(d, b, none));
-    let keyed = by_key(c, l.key, a, by_key(d, l.key, b, free));
-    by_session(l.on, file, keyed, free)
-}
-
-// SDMFileRead with SDM on, F with SDM off.
-fn tap_right(sdm: bool, file: u8) -> u8
-    ensures { result ≡ pick sdm file 15 }
-{
-    if sdm { file } else { 15 }
-}
-
-// A read looks at Read and ReadWrite, without a session first at SDMFileRead.
+// A read looks at Read and ReadWrite, and with SDM on at SDMFileRead.
+#[tactic(auto, unfolding(crate::specs::Access::read_grant))]
 fn read_grant(l: Live, h: Head) -> Grant
     ensures { result ≡ read_grant l h }
 {
-    let file = tap_right(h.sdm, h.sdm_file_read);
-    two_rights(l, h, Right::Read, Right::ReadWrite, file)
+    let file = if h.sdm { h.sdm_file_read } else { 15 };
+    granted(l, h, &[Right::Read, Right::ReadWrite], file)
 }
 
 // A write looks at Write and ReadWrite.
+#[tactic(auto, unfolding(crate::specs::Access::write_grant))]
 fn write_grant(l: Live, h: Head) -> Grant
     ensures { result ≡ write_grant l h }
 {
-    two_rights(l, h, Right::Write, Right::ReadWrite, 15)
+    granted(l, h, &[Right::Write, Right::ReadWrite], 15)
 }
 
-// ChangeFileSettings: Change.
-fn change_grant(l: Live, h: Head) -> Grant
-    ensures { result ≡ change_grant l h }
+// A session that serves, without any of the rights.
+fn in_session(serves: bool) -> Grant
+    ensures { result ≡ pick serves Unasked Denied }
 {
-    one_right(l, h, Right::Change)
-}
-
-// Never with SDM off.
-fn with_sdm(sdm: bool, g: Grant) -> Grant
-    ensures { result ≡ pick sdm g Never }
-{
-    if sdm {
-        return g;
+    if serves {
+        Grant::Unasked
+    } else {
+        Grant::Denied
     }
-    Grant::Never
-}
-
-// GetFileCounters: SDMCtrRet, and never with SDM off.
-fn counter_grant(l: Live, h: Head) -> Grant
-    ensures { result ≡ counter_grant l h }
-{
-    with_sdm(h.sdm, one_right(l, h, Right::SdmCtrRet))
-}
-
-// A session, without any of the rights.
-fn in_session(live: bool) -> Grant
-    ensures { result ≡ pick live Unasked Denied }
-{
-    if live {
-        return Grant::Unasked;
-    }
-    Grant::Denied
-}
-
-// A session with key 0.
-fn under_key_0(live: bool, key: u8) -> Grant
-    ensures { result ≡ pick (and live (eqb key 0)) Unasked Denied }
-{
-    if live {
-        return in_session(key == 0);
-    }
-    Grant::Denied
 }
 
 // How each command is granted.
+#[tactic(auto, unfolding(crate::specs::Access::grant_for, crate::specs::Access::change_grant, crate::specs::Access::counter_grant))]
 fn grant_for(name: Name, l: Live, h: Head) -> Grant
     ensures { result ≡ grant_for name l h }
 {
     match name {
-        Name::AuthenticateFirst => Grant::Unasked,
-        Name::AuthenticateNonFirst => Grant::Unasked,
-        Name::PartTwo => Grant::Unasked,
-        Name::ChangeKey => under_key_0(l.on, l.key),
-        Name::GetKeyVersion => Grant::Unasked,
+        Name::ChangeKey => in_session(l.on && l.key == 0),
         Name::GetCardUid => in_session(l.on),
-        Name::GetFileSettings => Grant::Unasked,
-        Name::ChangeFileSettings => change_grant(l, h),
-        Name::GetFileCounters => counter_grant(l, h),
-        Name::ReadData => read_grant(l, h),
-        Name::WriteData => write_grant(l, h),
-        Name::IsoSelectFile => Grant::Unasked,
-        Name::IsoReadBinary => read_grant(l, h),
-        Name::IsoUpdateBinary => write_grant(l, h),
+        Name::ChangeFileSettings => granted(l, h, &[Right::Change], 15),
+        Name::GetFileCounters if !h.sdm => Grant::Never,
+        Name::GetFileCounters => granted(l, h, &[Right::SdmCtrRet], 15),
+        Name::ReadData | Name::IsoReadBinary => read_grant(l, h),
+        Name::WriteData | Name::IsoUpdateBinary => write_grant(l, h),
+        Name::AuthenticateFirst
+        | Name::AuthenticateNonFirst
+        | Name::PartTwo
+        | Name::GetKeyVersion
+        | Name::GetFileSettings
+        | Name::IsoSelectFile => Grant::Unasked,
     }
 }
 
+#[tactic(auto, unfolding(crate::specs::Access::file_mode, messaging::specs::Protect::mode_number))]
 fn file_mode(m: u8) -> Mode
     ensures { result ≡ file_mode m }
 {
@@ -200,82 +133,46 @@ fn file_mode(m: u8) -> Mode
 }
 
 // Under a key the given mode, else Plain.
-fn under_key(g: Grant, m: Mode) -> Mode
-    ensures { result ≡ under_key g m }
+#[tactic(auto, unfolding(crate::specs::Access::under_key))]
+fn under_key(grant: Grant, m: Mode) -> Mode
+    ensures { result ≡ under_key grant m }
 {
-    match g {
+    match grant {
         Grant::ByKey(_) => m,
-        Grant::ByTap => Mode::Plain,
-        Grant::Free(_) => Mode::Plain,
-        Grant::Unasked => Mode::Plain,
-        Grant::Never => Mode::Plain,
-        Grant::Denied => Mode::Plain,
+        _ => Mode::Plain,
     }
-}
-
-// MAC in session, else Plain.
-fn mac_in_session(live: bool) -> Mode
-    ensures { result ≡ pick live Mac Plain }
-{
-    if live {
-        return Mode::Mac;
-    }
-    Mode::Plain
 }
 
 // The mode of each command, granted so.
-fn mode_for(name: Name, g: Grant, live: bool, m: u8) -> Mode
-    ensures { result ≡ mode_for name g live m }
+#[tactic(auto, unfolding(crate::specs::Access::mode_for))]
+fn mode_for(name: Name, grant: Grant, live: bool, m: u8) -> Mode
+    ensures { result ≡ mode_for name grant live m }
 {
     match name {
-        Name::AuthenticateFirst => Mode::Plain,
-        Name::AuthenticateNonFirst => Mode::Plain,
-        Name::PartTwo => Mode::Plain,
-        Name::ChangeKey => Mode::Full,
-        Name::GetKeyVersion => mac_in_session(live),
-        Name::GetCardUid => Mode::Full,
-        Name::GetFileSettings => mac_in_session(live),
-        Name::ChangeFileSettings => under_key(g, Mode::Full),
-        Name::GetFileCounters => under_key(g, Mode::Full),
-        Name::ReadData => under_key(g, file_mode(m)),
-        Name::WriteData => under_key(g, file_mode(m)),
-        Name::IsoSelectFile => Mode::Plain,
-        Name::IsoReadBinary => under_key(g, file_mode(m)),
-        Name::IsoUpdateBinary => under_key(g, file_mode(m)),
+        Name::ChangeKey | Name::GetCardUid => Mode::Full,
+        Name::GetKeyVersion | Name::GetFileSettings => if live { Mode::Mac } else { Mode::Plain },
+        Name::ChangeFileSettings | Name::GetFileCounters => under_key(grant, Mode::Full),
+        Name::ReadData | Name::WriteData | Name::IsoReadBinary | Name::IsoUpdateBinary => under_key(
+            grant,
+            file_mode(m),
+        ),
+        Name::AuthenticateFirst
+        | Name::AuthenticateNonFirst
+        | Name::PartTwo
+        | Name::IsoSelectFile => Mode::Plain,
     }
-}
-
-// Whether a command reads a file's bytes.
-fn reads(name: Name) -> bool
-    ensures { result ≡ reads name }
-{
-    match name {
-        Name::ReadData => true,
-        Name::IsoReadBinary => true,
-        _ => false,
-    }
-}
-
-// A read is a tap where SDM is on and there is no session.
-fn is_tap(read: bool, sdm: bool, live: bool) -> bool
-    ensures { result ≡ and read (and sdm (not live)) }
-{
-    if read {
-        if sdm {
-            return !live;
-        }
-    }
-    false
 }
 
 // What a command may do to a file with these settings, in this session or none.
+#[tactic(auto, unfolding(crate::specs::Access::decided, crate::specs::Access::reads))]
 pub fn decide(name: Name, l: Live, h: Head) -> Decision
     ensures { result ≡ decided name l h }
 {
     let grant = grant_for(name, l, h);
+    let reads = matches!(name, Name::ReadData | Name::IsoReadBinary);
     Decision {
         grant,
         mode: mode_for(name, grant, l.on, h.mode),
-        tap: is_tap(reads(name), h.sdm, l.on),
+        tap: reads && h.sdm && !l.on,
     }
 }

@@ -10,7 +10,7 @@ pub use marking::marked;
 use messaging::Mode;
 
 // The rights of a file, in Table 9's order.
-#[derive(Clone, Copy)]
+#[derive(Clone, Copy, Debug, PartialEq, Eq)]
 pub enum Right {
     Read,
     Write,
@@ -23,7 +23,7 @@ pub enum Right {
 
 // How a command is granted (8.2.3), or not: by a key under a right, by the tap rule under SDMFileRead, by E under a right, without any of
 // these rights; or every condition concerned is F, or not.
-#[derive(Clone, Copy)]
+#[derive(Clone, Copy, Debug, PartialEq, Eq)]
 pub enum Grant {
     ByKey(Right),
     ByTap,
@@ -41,15 +41,8 @@ pub struct Decision {
     pub tap: bool,
 }
 
-// What a journal notes of a call: that it never got to the decision, or what that answered.
-#[derive(Clone, Copy)]
-pub enum Noted {
-    Unreached,
-    Decided(Grant),
-}
-
-// The same by number: how, and under which right.
-#[derive(Clone, Copy)]
+// What a journal notes of the decision, by number: how, and under which right.
+#[derive(Clone, Copy, Debug, PartialEq, Eq)]
 pub struct Marks {
     pub how: u8,
     pub right: u8,

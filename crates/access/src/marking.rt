@@ -2,12 +2,13 @@
 ghost use Rattle.std.specs.Prelude.{◌≡◌};
 ghost use Rattle.access.specs.Marks.{right_number, how_number, granting_right, marks_of};
 
-use crate::{Grant, Marks, Noted, Right};
+use crate::{Grant, Marks, Right};
 
-fn right_number(r: Right) -> u8
-    ensures { result ≡ right_number r }
+#[tactic(auto, unfolding(crate::specs::Marks::right_number))]
+fn right_number(right: Right) -> u8
+    ensures { result ≡ right_number right }
 {
-    match r {
+    match right {
         Right::Read => 1,
         Right::Write => 2,
         Right::ReadWrite => 3,
@@ -19,42 +20,41 @@ fn right_number(r: Right) -> u8
 }
 
 // How a command is granted, or that it is refused.
-fn how_number(g: Grant) -> u8
-    ensures { result ≡ how_number g }
+#[tactic(auto, unfolding(crate::specs::Marks::how_number))]
+fn how_number(grant: Grant) -> u8
+    ensures { result ≡ how_number grant }
 {
-    match g {
+    match grant {
         Grant::ByKey(_) => 1,
         Grant::ByTap => 2,
         Grant::Free(_) => 3,
         Grant::Unasked => 4,
-        Grant::Never => 5,
-        Grant::Denied => 5,
+        Grant::Never | Grant::Denied => 5,
     }
 }
 
 // The right that grants it; the tap rule is SDMFileRead's.
-fn granting_right(g: Grant) -> u8
-    ensures { result ≡ granting_right g }
+#[tactic(auto, unfolding(crate::specs::Marks::granting_right))]
+fn granting_right(grant: Grant) -> u8
+    ensures { result ≡ granting_right grant }
 {
-    match g {
-        Grant::ByKey(r) => right_number(r),
+    match grant {
+        Grant::ByKey(right) | Grant::Free(right) => right_number(right),
         Grant::ByTap => right_number(Right::SdmFileRead),
-        Grant::Free(r) => right_number(r),
-        Grant::Unasked => 0,
-        Grant::Never => 0,
-        Grant::Denied => 0,
+        Grant::Unasked | Grant::Never | Grant::Denied => 0,
     }
 }
 
 // How and under which right; zeros where the decision was never got to.
-pub fn marked(n: Noted) -> Marks
-    ensures { result ≡ marks_of n }
+#[tactic(auto, unfolding(crate::specs::Marks::marks_of))]
+pub fn marked(noted: Option<Grant>) -> Marks
+    ensures { result ≡ marks_of noted }
 {
-    match n {
-        Noted::Unreached => Marks { how: 0, right: 0 },
-        Noted::Decided(g) => Marks {
-            how: how_number(g),
-            right: granting_right(g),
+    match noted {
+        Some(grant) => Marks {
+            how: how_number(grant),
+            right: granting_right(grant),
         },
+        None => Marks { how: 0, right: 0 },
     }
 }
