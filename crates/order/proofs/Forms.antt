@@ -1,32 +1,17 @@
--- Step 2: the data of a command, and how much it may be.
-use mathlib.Core.Path.{◌≡◌, ap}
+-- Step 2: a command of the right form has as much data as it says.
+use mathlib.Core.Path.{◌≡◌}
 use mathlib.Core.Bool.{true, false}
-use mathlib.Core.List.{List, []}
+use mathlib.Core.List.{List}
 use mathlib.Core.Logic.{⊎_elim}
-use Prim.Native.Nat.{ℕ, ◌+◌, ◌-◌, ◌≤◌, ◌<◌}
+use Prim.Native.Nat.{ℕ, ◌+◌, ◌≤◌, ◌<◌}
 use native.Mathlib.Omega.{arith}
 use borrow.Author.Tests.{le-leb, lt-leb, ne_eqb, eqb-true}
 use lib.Dec.{eqb, leb}
-use lib.ListN.{length, take, drop}
+use lib.ListN.{length}
 use Rattle.base.specs.Decide.{or}
 use Rattle.base.specs.Bytes.{byte_at}
 use Rattle.base.proofs.Bytes.{le_or_lt, and_right}
-use Rattle.order.specs.Order.{command_data, iso_form, lc_of}
-
-pub part_none : (c : List ℕ) → length c ≤ 5 → [] ≡ command_data c
-unfolding command_data
-part_none c h = let e : 0 ≡ length c - 6 = omega arith in ap (λ k. take k (drop 5 c)) e
-
-pub part_some : (c : List ℕ) → take (length c - 1 - 5) (drop 5 c) ≡ command_data c
-unfolding command_data
-part_some c = let e : length c - 1 - 5 ≡ length c - 6 = omega arith in ap (λ k. take k (drop 5 c)) e
-
--- Lc is a byte
-pub lc_small : (c : List ℕ) → byte_at c 4 < 256 → lc_of c ≤ 256
-unfolding lc_of
-lc_small c h =
-    ⊎_elim (λ k. rw (le-leb (length c) 5 k) (omega arith)) (λ k. rw (lt-leb (length c) 5 k) (omega arith))
-    (le_or_lt (length c) 5)
+use Rattle.order.specs.Order.{iso_form, lc_of}
 
 -- n bytes are as many as Lc says, without Le or with it
 long_enough : (n b : ℕ) → or (eqb n (5 + b)) (eqb n (6 + b)) ≡ true → 5 + b ≤ n

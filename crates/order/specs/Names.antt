@@ -1,12 +1,10 @@
 -- The fourteen commands (01, "The tag we build"), each with its class and INS.
-use Rattle.std.specs.Prelude.{List, [], ◌∷◌, ℕ, eqb}
+use Rattle.std.specs.Prelude.{List, [], ◌∷◌, Option, Some, None, ℕ, eqb}
 use Rattle.base.specs.Decide.{pick, and}
 use Rattle.order.specs.declared.Name.{Name}
 use Rattle.order.specs.declared.Name.TheVariants.{AuthenticateFirst, AuthenticateNonFirst, PartTwo, ChangeKey, GetKeyVersion, GetCardUid}
 use Rattle.order.specs.declared.Name.TheVariants.{GetFileSettings, ChangeFileSettings, GetFileCounters, ReadData, WriteData}
 use Rattle.order.specs.declared.Name.TheVariants.{IsoSelectFile, IsoReadBinary, IsoUpdateBinary}
-use Rattle.order.specs.declared.Named.{Named}
-use Rattle.order.specs.declared.Named.TheVariants.{Known, Unknown}
 
 -- wrapped, CLA 90, and CLA 00
 unfoldable pub class_of : Name → ℕ
@@ -60,9 +58,9 @@ fourteen =
     ∷ []
 
 -- the first command of a list that has this class and INS
-unfoldable pub among : ℕ → ℕ → List Name → Named
-among class ins [] = Unknown
-among class ins (n ∷ ns) = pick (and (eqb (class_of n) class) (eqb ins (ins_of n))) (Known n) (among class ins ns)
+unfoldable pub among : ℕ → ℕ → List Name → Option Name
+among class ins [] = None
+among class ins (n ∷ ns) = pick (and (eqb (class_of n) class) (eqb ins (ins_of n))) (Some n) (among class ins ns)
 
-unfoldable pub named : ℕ → ℕ → Named
+unfoldable pub named : ℕ → ℕ → Option Name
 named class ins = among class ins fourteen

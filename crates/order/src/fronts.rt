@@ -2,63 +2,47 @@
 ghost use Rattle.std.specs.Prelude.{◌≡◌, [], ◌∷◌};
 ghost use Rattle.base.specs.Decide.{one_of};
 ghost use Rattle.settings.specs.Filing.{file_status};
+ghost use Rattle.statuses.specs.Words.{word_or_0};
 ghost use Rattle.order.specs.Order.{form_right, command_data, header_length, has_data, names_key, key_status, byte_status, front_status, order_status, wrapped_status};
 
+use statuses::Status;
+
 // 5 bytes, or 6 + Lc with Lc 1 to 255, and the last byte 00.
+#[tactic(auto, unfolding(crate::specs::Order::form_right))]
 pub fn form_right(c: &[u8]) -> bool
     ensures { result ≡ form_right c.now }
 {
     let n = c.len();
-    if n < 5 {
-        return false;
-    }
-    if base::at(c, n - 1) == 0 {
-        if n == 5 {
-            return true;
-        }
-        let lc = base::at(c, 4) as usize;
-        if lc == 0 {
-            return false;
-        }
-        return n == 6 + lc;
-    }
-    false
+    let lc = usize::from(base::at(c, 4));
+    5 <= n && base::at(c, n - 1) == 0 && (n == 5 || 1 <= lc && n == 6 + lc)
 }
 
 // The data of a wrapped command.
+#[tactic(auto, unfolding(crate::specs::Order::command_data))]
 pub fn command_data(c: &[u8]) -> &[u8]
     ensures { result.now ≡ command_data c.now }
 {
     let n = c.len();
-    if n <= 5 {
-        return &c[..0];
-    }
-    &c[5..n - 1]
+    if n <= 5 { &c[..0] } else { &c[5..n - 1] }
 }
 
-// Steps 3 and 4: 0, or the status.
-fn order_status(ins: u8, p1: u8, p2: u8, pending: bool) -> u16
-    ensures { result ≡ order_status ins p1 p2 pending }
+// Steps 3 and 4.
+#[tactic(auto, unfolding(crate::specs::Order::order_status))]
+fn order_status(ins: u8, p1: u8, p2: u8, pending: bool) -> Result<(), Status>
+    ensures { word_or_0 result ≡ order_status ins p1 p2 pending }
 {
-    if p1 != 0 {
-        return 0x919E;
+    if p1 != 0 || p2 != 0 {
+        return Err(Status::ParameterError);
     }
-    if p2 != 0 {
-        return 0x919E;
+    match (pending, ins == 0xAF) {
+        (true, false) => Err(Status::CommandAborted),
+        (false, true) => Err(Status::IllegalCommandCode),
+        _ => Ok(()),
     }
-    if pending {
-        if ins == 0xAF {
-            return 0;
-        }
-        return 0x91CA;
-    }
-    if ins == 0xAF {
-        return 0x911C;
-    }
-    0
 }
 
 // How many bytes a header has.
+#[tactic(auto, unfolding(crate::specs::Order::header_length, base::specs::Decide::one_of))]
 pub fn header_length(ins: u8) -> usize
     ensures { result ≡ header_length ins }
 {
@@ -70,100 +54,87 @@ pub fn header_length(ins: u8) -> usize
 }
 
 // Whether a command has a data part.
+#[tactic(auto, unfolding(crate::specs::Order::has_data, base::specs::Decide::one_of))]
 pub fn has_data(ins: u8) -> bool
     ensures { result ≡ has_data ins }
 {
-    match ins {
-        0x5F | 0x8D | 0xC4 => true,
-        _ => false,
-    }
+    matches!(ins, 0x5F | 0x8D | 0xC4)
 }
 
 // Whether a command names a key.
+#[tactic(auto, unfolding(crate::specs::Order::names_key, base::specs::Decide::one_of))]
 pub fn names_key(ins: u8) -> bool
     ensures { result ≡ names_key ins }
 {
-    match ins {
-        0x64 | 0xC4 => true,
-        _ => false,
-    }
+    matches!(ins, 0x64 | 0xC4)
 }
 
 // Whether a command has its own checks in place of step 5.
+#[tactic(auto, unfolding(base::specs::Decide::one_of))]
 fn checks_itself(ins: u8) -> bool
     ensures { result ≡ one_of ins (0x71 ∷ 0x77 ∷ 0xAF ∷ []) }
 {
+    matches!(ins, 0x71 | 0x77 | 0xAF)
+}
+
+// A file byte: over 31 919E, not 1 to 3 91F0.
+#[tactic(auto, unfolding(settings::specs::Filing::file_status))]
+fn file_status(n: u8) -> Result<(), Status>
+    ensures { word_or_0 result ≡ file_status n }
+{
+    match n {
+        1..=3 => Ok(()),
+        0..=31 => Err(Status::FileNotFound),
+        _ => Err(Status::ParameterError),
+    }
+}
+
+// A key byte: over 63 919E, over 4 9140.
+#[tactic(auto, unfolding(crate::specs::Order::key_status))]
+pub fn key_status(k: u8) -> Result<(), Status>
+    ensures { word_or_0 result ≡ key_status k }
+{
+    match k {
+        0..=4 => Ok(()),
+        5..=63 => Err(Status::NoSuchKey),
+        _ => Err(Status::ParameterError),
+    }
+}
+
+#[tactic(auto, unfolding(crate::specs::Order::byte_status))]
+fn byte_status(ins: u8, b: u8) -> Result<(), Status>
+    ensures { word_or_0 result ≡ byte_status ins b }
+{
     match ins {
-        0x71 | 0x77 | 0xAF => true,
-        _ => false,
+        0x51 => Ok(()),
+        _ if names_key(ins) => key_status(b),
+        _ => file_status(b),
     }
 }
 
-// 0, or the status of a file byte: over 31 919E, not 1 to 3 91F0.
-fn file_status(n: u8) -> u16
-    ensures { result ≡ file_status n }
-{
-    if 31 < n {
-        return 0x919E;
-    }
-    if n == 0 {
-        return 0x91F0;
-    }
-    if 3 < n {
-        return 0x91F0;
-    }
-    0
-}
-
-// 0, or the status of a key byte: over 63 919E, over 4 9140.
-pub fn key_status(k: u8) -> u16
-    ensures { result ≡ key_status k }
-{
-    if 63 < k {
-        return 0x919E;
-    }
-    if 4 < k {
-        return 0x9140;
-    }
-    0
-}
-
-fn byte_status(ins: u8, b: u8) -> u16
-    ensures { result ≡ byte_status ins b }
-{
-    if ins == 0x51 {
-        return 0;
-    }
-    if names_key(ins) {
-        return key_status(b);
-    }
-    file_status(b)
-}
-
-// Step 5: 0, or the status.
-fn front_status(ins: u8, x: &[u8], application: bool) -> u16
-    ensures { result ≡ front_status ins x.now application }
+// Step 5.
+#[tactic(auto, unfolding(crate::specs::Order::front_status))]
+fn front_status(ins: u8, x: &[u8], application: bool) -> Result<(), Status>
+    ensures { word_or_0 result ≡ front_status ins x.now application }
 {
     if checks_itself(ins) {
-        return 0;
+        return Ok(());
     }
     if x.len() < header_length(ins) {
-        return 0x917E;
+        return Err(Status::LengthError);
     }
-    if application {
-        return byte_status(ins, base::at(x, 0));
+    if !application {
+        return Err(Status::PermissionDenied);
     }
-    0x919D
+    byte_status(ins, base::at(x, 0))
 }
 
-// Steps 3 to 5: 0, or the status.
-pub fn wrapped_status(c: &[u8], pending: bool, application: bool) -> u16
-    ensures { result ≡ wrapped_status c.now pending application }
+// Steps 3 to 5.
+#[tactic(auto, unfolding(crate::specs::Order::wrapped_status))]
+pub fn wrapped_status(c: &[u8], pending: bool, application: bool) -> Result<(), Status>
+    ensures { word_or_0 result ≡ wrapped_status c.now pending application }
 {
     let ins = base::at(c, 1);
-    let s = order_status(ins, base::at(c, 2), base::at(c, 3), pending);
-    if s != 0 {
-        return s;
-    }
+    order_status(ins, base::at(c, 2), base::at(c, 3), pending)?;
     front_status(ins, command_data(c), application)
 }

@@ -1,90 +1,81 @@
 // ISO commands (CLA 00): their form, and the checks in front of each.
 ghost use Rattle.std.specs.Prelude.{◌≡◌};
+ghost use Rattle.statuses.specs.Words.{word_or_0};
 ghost use Rattle.order.specs.Order.{iso_form, lc_of, has_le, fits, on_file_status, iso_status};
 
+use statuses::Status;
+
 // 4 bytes, 5 bytes (Le), 5 + Lc or 6 + Lc with Lc 1 to 255.
+#[tactic(auto, unfolding(crate::specs::Order::iso_form))]
 pub fn form(c: &[u8]) -> bool
     ensures { result ≡ iso_form c.now }
 {
     let n = c.len();
-    let lc = base::at(c, 4) as usize;
-    if n <= 5 {
-        return true;
-    }
-    if 1 <= lc {
-        if n == 5 + lc {
-            return true;
-        }
-        return n == 6 + lc;
-    }
-    false
+    let lc = usize::from(base::at(c, 4));
+    n <= 5 || 1 <= lc && (n == 5 + lc || n == 6 + lc)
 }
 
 // How much data there is.
-pub fn lc_of(c: &[u8]) -> usize
+#[tactic(auto, unfolding(crate::specs::Order::lc_of))]
+pub fn lc_of(c: &[u8]) -> u8
     ensures { result ≡ lc_of c.now }
 {
-    if c.len() <= 5 {
-        return 0;
-    }
-    base::at(c, 4) as usize
+    if c.len() <= 5 { 0 } else { base::at(c, 4) }
 }
 
 // Whether there is Le.
+#[tactic(auto, unfolding(crate::specs::Order::has_le))]
 fn has_le(c: &[u8]) -> bool
     ensures { result ≡ has_le c.now }
 {
     let n = c.len();
-    let lc = base::at(c, 4) as usize;
     if n <= 5 {
-        return n == 5;
+        n == 5
+    } else {
+        n == 6 + usize::from(base::at(c, 4))
     }
-    n == 6 + lc
 }
 
 // A read needs Le and no data, an update data and no Le.
+#[tactic(auto, unfolding(crate::specs::Order::fits))]
 fn fits(reads: bool, c: &[u8]) -> bool
     ensures { result ≡ fits reads c.now }
 {
     let lc = lc_of(c);
-    let le = has_le(c);
     if reads {
-        if le {
-            return lc == 0;
-        }
-        return false;
+        has_le(c) && lc == 0
+    } else {
+        !has_le(c) && 1 <= lc
     }
-    if le {
-        return false;
-    }
-    1 <= lc
 }
 
-// Reads and updates: 0, or the status.
-fn on_file_status(c: &[u8], file: u8) -> u16
-    ensures { result ≡ on_file_status c.now file }
+// Reads and updates.
+#[tactic(auto, unfolding(crate::specs::Order::on_file_status))]
+fn on_file_status(c: &[u8], file: u8) -> Result<(), Status>
+    ensures { word_or_0 result ≡ on_file_status c.now file }
 {
     if 128 <= base::at(c, 2) {
-        return 0x6A86;
+        return Err(Status::IsoWrongP1P2);
     }
-    if fits(base::at(c, 1) == 0xB0, c) {
-        if file == 0 {
-            return 0x6985;
-        }
-        return 0;
+    if !fits(base::at(c, 1) == 0xB0, c) {
+        return Err(Status::IsoWrongLength);
     }
-    0x6700
+    if file == 0 {
+        return Err(Status::IsoConditions);
+    }
+    Ok(())
 }
 
-// Step 4 and what follows it: 0, or the status.
-pub fn iso_status(c: &[u8], pending: bool, file: u8) -> u16
-    ensures { result ≡ iso_status c.now pending file }
+// Step 4 and what follows it.
+#[tactic(auto, unfolding(crate::specs::Order::iso_status))]
+pub fn iso_status(c: &[u8], pending: bool, file: u8) -> Result<(), Status>
+    ensures { word_or_0 result ≡ iso_status c.now pending file }
 {
     if pending {
-        return 0x6985;
+        return Err(Status::IsoConditions);
     }
     if base::at(c, 1) == 0xA4 {
-        return 0;
+        return Ok(());
     }
     on_file_status(c, file)
 }

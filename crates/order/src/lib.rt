@@ -11,7 +11,7 @@ pub use fronts::key_status;
 pub use ordering::command_in;
 
 // The commands.
-#[derive(Clone, Copy)]
+#[derive(Clone, Copy, Debug, PartialEq, Eq)]
 pub enum Name {
     AuthenticateFirst,
     AuthenticateNonFirst,
@@ -29,16 +29,9 @@ pub enum Name {
     IsoUpdateBinary,
 }
 
-// The command of a class and an INS.
-#[derive(Clone, Copy)]
-pub enum Named {
-    Known(Name),
-    Unknown,
-}
-
 // A command: its name, class and INS; how long its header is and whether it has a data part; the key or the file that it is
 // about, P1 and P2, offset and length or Le, 0 where it has none; and where its data lies among its bytes.
-#[derive(Clone, Copy)]
+#[derive(Clone, Copy, Debug, PartialEq, Eq)]
 pub struct Command {
     pub name: Name,
     pub class: u8,
@@ -53,11 +46,4 @@ pub struct Command {
     pub count: usize,
     pub start: usize,
     pub end: usize,
-}
-
-// The command, or the status that refuses it.
-#[derive(Clone, Copy)]
-pub enum Ordered {
-    Is(Command),
-    Refused(u16),
 }

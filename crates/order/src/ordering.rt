@@ -1,74 +1,31 @@
 // Steps 1 to 5: bytes become a command, or a status.
-ghost use Rattle.std.specs.Prelude.{◌≡◌, ◌<◌, ◌≤◌, ◌-◌, length};
-ghost use Rattle.base.specs.Decide.{pick};
-ghost use Rattle.base.specs.Bytes.{byte_at};
+ghost use Rattle.std.specs.Prelude.{◌≡◌, ◌≤◌, length};
 ghost use Rattle.fields.specs.Fields.{three};
-ghost use Rattle.order.specs.Commands.{data_start, data_end, wrapped_command, iso_command, by_status, wrapped_order, iso_order, ordered, ordered_number};
+ghost use Rattle.order.specs.Commands.{data_start, data_end, wrapped_command, iso_command, wrapped_order, iso_order, ordered, ordered_number, in_words};
 
-use super::{Command, Name, Named, Ordered, fronts, iso, naming};
+use super::{Command, Name, fronts, iso, naming};
+use statuses::Status;
 
-// A byte as a wider number.
-fn wide(b: u8) -> usize
-    ensures { (result ≡ b) × (result < 256) }
-{
-    b as usize
-}
-
-// The number in the three bytes at an index of a header, low byte first; 0 where the header has none.
-fn three_at(long: bool, x: &[u8], i: usize) -> usize
+// The number in three bytes of a header, low byte first.
+#[tactic(auto, unfolding(fields::specs::Fields::three, base::specs::Bytes::number))]
+fn three_at(x: &[u8], i: usize) -> usize
     requires { i ≤ 4 }
-    ensures { result ≡ pick long (three x.now i) 0 }
+    ensures { result ≡ three x.now i }
 {
-    if long {
-        let a = wide(base::at(x, i));
-        let b = wide(base::at(x, i + 1));
-        let c = wide(base::at(x, i + 2));
-        return a + 256 * (b + 256 * c);
-    }
-    0
+    u32::from_le_bytes([base::at(x, i), base::at(x, i + 1), base::at(x, i + 2), 0]) as usize
 }
 
-// A byte, or 0.
-fn byte_if(there: bool, b: u8) -> u8
-    ensures { result ≡ pick there b 0 }
-{
-    if there { b } else { 0 }
-}
-
-// 0, or a byte.
-fn byte_unless(there: bool, b: u8) -> u8
-    ensures { result ≡ pick there 0 b }
-{
-    if there { 0 } else { b }
-}
-
-// Where n bytes of data begin.
-fn data_start(n: usize) -> usize
-    ensures { result ≡ data_start n }
-{
-    if n == 0 { 0 } else { 5 }
-}
-
-// And where they end.
-fn data_end(n: usize) -> usize
+// Where n bytes of data begin and end.
+fn data_place(n: usize) -> (usize, usize)
     requires { n ≤ 256 }
-    ensures { result ≡ data_end n }
+    ensures start { result.0 ≡ data_start n }
+    ensures end { result.1 ≡ data_end n }
 {
-    if n == 0 { 0 } else { 5 + n }
-}
-
-// How many bytes of data a wrapped command has.
-fn data_length(n: usize) -> usize
-    requires { n ≤ 261 }
-    ensures { (result ≡ n - 6) × (result ≤ 255) }
-{
-    if n <= 6 {
-        return 0;
-    }
-    n - 6
+    if n == 0 { (0, 0) } else { (5, 5 + n) }
 }
 
 // A wrapped command in the right form.
+#[tactic(auto, unfolding(crate::specs::Commands::wrapped_command, crate::specs::Order::command_data))]
 fn wrapped_command(name: Name, c: &[u8]) -> Command
     requires { length c.now ≤ 261 }
     ensures { result ≡ wrapped_command name c.now }
@@ -76,34 +33,44 @@ fn wrapped_command(name: Name, c: &[u8]) -> Command
     let ins = base::at(c, 1);
     let x = fronts::command_data(c);
     let header = fronts::header_length(ins);
-    let first = byte_if(1 <= header, base::at(x, 0));
-    let long = header == 7;
-    let keyed = fronts::names_key(ins);
-    let n = data_length(c.len());
+    let first = if header == 0 { 0 } else { base::at(x, 0) };
+    let (key, file) = if fronts::names_key(ins) {
+        (first, 0)
+    } else {
+        (0, first)
+    };
+    let (offset, count) = if header == 7 {
+        (three_at(x, 1), three_at(x, 4))
+    } else {
+        (0, 0)
+    };
+    let (start, end) = data_place(x.len());
     Command {
         name,
         class: 0x90,
         ins,
         header,
         parted: fronts::has_data(ins),
-        key: byte_if(keyed, first),
-        file: byte_unless(keyed, first),
+        key,
+        file,
         p1: 0,
         p2: 0,
-        offset: three_at(long, x, 1),
-        count: three_at(long, x, 4),
-        start: data_start(n),
-        end: data_end(n),
+        offset,
+        count,
+        start,
+        end,
     }
 }
 
 // An ISO command in the right form, with the selected file.
+#[tactic(auto, unfolding(crate::specs::Commands::iso_command))]
 fn iso_command(name: Name, c: &[u8], file: u8) -> Command
     ensures { result ≡ iso_command name c.now file }
 {
     let p1 = base::at(c, 2);
     let p2 = base::at(c, 3);
     let n = iso::lc_of(c);
+    let (start, end) = data_place(usize::from(n));
     Command {
         name,
         class: 0x00,
@@ -114,74 +81,53 @@ fn iso_command(name: Name, c: &[u8], file: u8) -> Command
         file,
         p1,
         p2,
-        offset: wide(p1) * 256 + wide(p2),
-        count: wide(base::at(c, 4)),
-        start: data_start(n),
-        end: data_end(n),
+        offset: usize::from(u16::from_be_bytes([p1, p2])),
+        count: usize::from(base::at(c, 4)),
+        start,
+        end,
     }
-}
-
-// The command, or the status that refuses it.
-fn by_status(s: u16, k: Command) -> Ordered
-    ensures { result ≡ by_status s k }
-{
-    if s == 0 {
-        return Ordered::Is(k);
-    }
-    Ordered::Refused(s)
 }
 
 // CLA 90.
-fn wrapped_order(c: &[u8], pending: bool, application: bool) -> Ordered
+#[tactic(auto, unfolding(crate::specs::Commands::wrapped_order, crate::specs::Commands::by_status))]
+fn wrapped_order(c: &[u8], pending: bool, application: bool) -> Result<Command, Status>
     requires { length c.now ≤ 261 }
-    ensures { result ≡ wrapped_order c.now pending application }
+    ensures { in_words result ≡ wrapped_order c.now pending application }
 {
-    if fronts::form_right(c) {
-        let n = naming::wrapped_name(base::at(c, 1));
-        return match n {
-            Named::Known(name) => by_status(
-                fronts::wrapped_status(c, pending, application),
-                wrapped_command(name, c),
-            ),
-            Named::Unknown => Ordered::Refused(0x911C),
-        };
+    if !fronts::form_right(c) {
+        return Err(Status::LengthError);
     }
-    Ordered::Refused(0x917E)
+    let name = naming::wrapped_name(base::at(c, 1)).ok_or(Status::IllegalCommandCode)?;
+    fronts::wrapped_status(c, pending, application)?;
+    Ok(wrapped_command(name, c))
 }
 
 // CLA 00.
-fn iso_order(c: &[u8], pending: bool, file: u8) -> Ordered
-    ensures { result ≡ iso_order c.now pending file }
+#[tactic(auto, unfolding(crate::specs::Commands::iso_order, crate::specs::Commands::by_status))]
+fn iso_order(c: &[u8], pending: bool, file: u8) -> Result<Command, Status>
+    ensures { in_words result ≡ iso_order c.now pending file }
 {
-    if iso::form(c) {
-        let n = naming::iso_name(base::at(c, 1));
-        return match n {
-            Named::Known(name) => by_status(
-                iso::iso_status(c, pending, file),
-                iso_command(name, c, file),
-            ),
-            Named::Unknown => Ordered::Refused(0x6D00),
-        };
+    if !iso::form(c) {
+        return Err(Status::IsoWrongLength);
     }
-    Ordered::Refused(0x6700)
+    let name = naming::iso_name(base::at(c, 1)).ok_or(Status::IsoUnknownInstruction)?;
+    iso::iso_status(c, pending, file)?;
+    Ok(iso_command(name, c, file))
 }
 
 // The command in these bytes, to a tag with a part two pending or not, in the application or not, with a file selected or none
 // (0); or the status that refuses it.
-pub fn command_in(c: &[u8], pending: bool, application: bool, file: u8) -> Ordered
-    ensures told { result ≡ ordered c.now pending application file }
-    ensures number { ordered_number result ≡ ordered_number (ordered c.now pending application file) }
+#[tactic(auto, unfolding(crate::specs::Commands::ordered))]
+pub fn command_in(c: &[u8], pending: bool, application: bool, file: u8) -> Result<Command, Status>
+    ensures told { in_words result ≡ ordered c.now pending application file }
+    ensures number { ordered_number (in_words result) ≡ ordered_number (ordered c.now pending application file) }
 {
-    if c.len() < 4 {
-        return Ordered::Refused(0x6700);
+    if c.len() < 4 || 261 < c.len() {
+        return Err(Status::IsoWrongLength);
     }
-    if 261 < c.len() {
-        return Ordered::Refused(0x6700);
-    }
-    let class = base::at(c, 0);
-    match class {
+    match c[0] {
         0x90 => wrapped_order(c, pending, application),
         0x00 => iso_order(c, pending, file),
-        _ => Ordered::Refused(0x6E00),
+        _ => Err(Status::IsoUnknownClass),
     }
 }

@@ -1,9 +1,0 @@
--- `order::ordering::data_end` meets its contract: one of the two.
-use Rattle.base.proofs.Bytes.{tests}
-use Rattle.order.proofs.ordering.data_end.Goals as goal
-
-pub returns-then-n-eq0 : goal.returns-then-n-eq0
-returns-then-n-eq0 c = search tests
-
-pub returns-else-n-eq0 : goal.returns-else-n-eq0
-returns-else-n-eq0 c = search tests
