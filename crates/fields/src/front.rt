@@ -4,32 +4,29 @@ ghost use Rattle.fields.specs.Fields.{sdm_on, sdm_byte, mode_of, head_of, has_ui
 
 use super::Head;
 
+#[tactic(auto, unfolding(crate::specs::Fields::mode_of))]
 fn mode_of(b: u8) -> u8
     ensures { result ≡ mode_of b }
 {
-    if b % 4 == 2 {
-        return 0;
-    }
-    b % 4
+    if b % 4 == 2 { 0 } else { b % 4 }
 }
 
 // A byte of SDM's, and 0 where SDM is off.
+#[tactic(auto, unfolding(crate::specs::Fields::sdm_byte))]
 fn sdm_byte(s: &[u8], i: usize) -> u8
     ensures { result ≡ sdm_byte s.now i }
 {
-    if sdm_on(s) {
-        return base::at(s, i);
-    }
-    0
+    if sdm_on(s) { base::at(s, i) } else { 0 }
 }
 
+#[tactic(auto, unfolding(crate::specs::Fields::sdm_on))]
 pub fn sdm_on(s: &[u8]) -> bool
     ensures { result ≡ sdm_on s.now }
 {
-    let b = base::at(s, 0);
-    b / 64 % 2 == 1
+    base::at(s, 0) / 64 % 2 == 1
 }
 
+#[tactic(auto, unfolding(crate::specs::Fields::head_of))]
 pub fn head(s: &[u8]) -> Head
     ensures { result ≡ head_of s.now }
 {
@@ -54,37 +51,43 @@ pub fn head(s: &[u8]) -> Head
     }
 }
 
+#[tactic(auto, unfolding(crate::specs::Fields::has_uid))]
 pub fn has_uid(h: Head) -> bool
     ensures { result ≡ has_uid h }
 {
-    truth::both(h.uid, h.sdm_meta_read == 14)
+    h.uid && h.sdm_meta_read == 14
 }
 
+#[tactic(auto, unfolding(crate::specs::Fields::has_counter))]
 pub fn has_counter(h: Head) -> bool
     ensures { result ≡ has_counter h }
 {
-    truth::both(h.counter, h.sdm_meta_read == 14)
+    h.counter && h.sdm_meta_read == 14
 }
 
+#[tactic(auto, unfolding(crate::specs::Fields::has_picc))]
 pub fn has_picc(h: Head) -> bool
     ensures { result ≡ has_picc h }
 {
-    truth::both(h.sdm, h.sdm_meta_read <= 4)
+    h.sdm && h.sdm_meta_read <= 4
 }
 
+#[tactic(auto, unfolding(crate::specs::Fields::has_mac))]
 pub fn has_mac(h: Head) -> bool
     ensures { result ≡ has_mac h }
 {
-    truth::both(h.sdm, truth::negate(h.sdm_file_read == 15))
+    h.sdm && h.sdm_file_read != 15
 }
 
+#[tactic(auto, unfolding(crate::specs::Fields::has_enc))]
 pub fn has_enc(h: Head) -> bool
     ensures { result ≡ has_enc h }
 {
-    truth::both(h.enc, has_mac(h))
+    h.enc && has_mac(h)
 }
 
 // Which of the fields behind are present, in the order of Table 69.
+#[tactic(auto, unfolding(crate::specs::Fields::present))]
 pub fn present_fields(h: Head) -> [bool; 8]
     ensures { result ≡ present h }
 {

@@ -11,7 +11,7 @@ pub use front::{
 
 // The fields in front: CommMode (0 Plain, 1 MAC, 3 Full), the rights Read, Write, ReadWrite and Change, SDM, the four
 // options, SDMMetaRead, SDMFileRead and SDMCtrRet. With SDM off the parts of SDM are 0.
-#[derive(Clone, Copy)]
+#[derive(Clone, Copy, Debug, PartialEq, Eq)]
 pub struct Head {
     pub mode: u8,
     pub read: u8,
@@ -30,7 +30,7 @@ pub struct Head {
 
 // The fields behind, 0 where not there: UIDOffset, SDMReadCtrOffset, PICCDataOffset, SDMMACInputOffset, SDMENCOffset,
 // SDMENCLength, SDMMACOffset, SDMReadCtrLimit.
-#[derive(Clone, Copy)]
+#[derive(Clone, Copy, Debug, PartialEq, Eq)]
 pub struct Places {
     pub uid: u32,
     pub counter: u32,
@@ -43,7 +43,7 @@ pub struct Places {
 }
 
 // What a string means.
-#[derive(Clone, Copy)]
+#[derive(Clone, Copy, Debug, PartialEq, Eq)]
 pub struct Settings {
     pub head: Head,
     pub places: Places,

@@ -1,28 +1,19 @@
--- `fields::fields::end_of_fields` meets its contract.
-use Prim.Native.Nat.{◌+◌, ◌-◌}
-use mathlib.Core.Path.{◌≡◌, refl, sym, ap, ◌∙◌}
-use lib.ListN.{length, drop, drop_of_length-le}
+use Rattle.std.proofs.Common.{rules, arith, ◌≡◌, ◌+◌, sym, ap, ◌∙◌, length, drop}
+use lib.ListN.{drop_of_length-le}
 use Rattle.fields.specs.Fields.{ends}
 use Rattle.fields.proofs.Cursor.{ends-step}
-use borrow.Author.Rules.{rules}
-use native.Mathlib.Omega.{arith}
 use Rattle.fields.proofs.fields.end_of_fields.Goals as goal
 
-pub loop-i-init : goal.loop-i-init
-loop-i-init c = (omega arith, omega arith, refl)
-
-pub loop-i-preserved : goal.loop-i-preserved
-loop-i-preserved c =
+pub loop-present-preserved : goal.loop-present-preserved
+loop-present-preserved c =
     let ps = c.args.there in
-    let at = c.loop-i.at in
-    let i = c.loop-i.i in
+    let i = c.loop-present.present-index in
     let l : length ps ≡ 8 = search rules in
-    let n = c.step-next.ensures.0 in
-    (omega arith, omega arith, ap (λ k. ends k (drop (i + 1) ps)) n ∙ sym (ends-step ps i at (omega arith)) ∙ c.loop-i.invariant.2)
+    (omega arith, ap (λ k. ends k (drop (i + 1) ps)) c.step-at.ensures.0 ∙ sym (ends-step ps i c.loop-present.at (omega arith)) ∙ c.loop-present.invariant.1)
 
 pub returns : goal.returns
 unfolding ends
 returns c =
     let ps = c.args.there in
     let l : length ps ≡ 8 = search rules in
-    sym (ap (λ x. ends c.loop-i.at x) (drop_of_length-le ps {i = c.loop-i.i} (omega arith))) ∙ c.loop-i.invariant.2
+    sym (ap (λ x. ends c.loop-present.at x) (drop_of_length-le ps {i = c.loop-present.present-index} (omega arith))) ∙ c.loop-present.invariant.1
