@@ -1,15 +1,14 @@
 // The spans of the mirrors, and what a settings string means with them, whether it is good or not.
 #![tactic(auto)]
 
-ghost use Rattle.std.specs.Prelude.{◌≡◌, ◌<◌, ◌^◌};
-ghost use Rattle.base.specs.Decide.{pick};
+ghost use Rattle.std.specs.Prelude.{◌≡◌};
 ghost use Rattle.fields.specs.Fields.{read_of};
 ghost use Rattle.spans.specs.Spans.{span, uid_span, counter_span, picc_span, enc_span, mac_span, reading_of, end_of, inside, apart, all_apart};
 
 use fields::Settings;
 
 // Bytes of the file that a mirror takes; one that is not there starts at 0 and has none.
-#[derive(Clone, Copy)]
+#[derive(Clone, Copy, Debug, PartialEq, Eq)]
 pub struct Span {
     pub present: bool,
     pub start: u32,
@@ -17,7 +16,7 @@ pub struct Span {
 }
 
 // What a string means, with the spans of its mirrors.
-#[derive(Clone, Copy)]
+#[derive(Clone, Copy, Debug, PartialEq, Eq)]
 pub struct Reading {
     pub settings: Settings,
     pub uid: Span,
@@ -27,47 +26,47 @@ pub struct Reading {
     pub mac: Span,
 }
 
-// One of two numbers.
-fn choose(a: bool, x: u32, y: u32) -> u32
-    ensures { result ≡ pick a x y }
-{
-    if a { x } else { y }
-}
-
+#[tactic(auto, unfolding(crate::specs::Spans::span))]
 fn span_of(present: bool, at: u32, n: u32) -> Span
     ensures { result ≡ span present at n }
 {
+    let (start, size) = if present { (at, n) } else { (0, 0) };
     Span {
         present,
-        start: choose(present, at, 0),
-        size: choose(present, n, 0),
+        start,
+        size,
     }
 }
 
+#[tactic(auto, unfolding(crate::specs::Spans::uid_span))]
 fn uid_span(r: Settings) -> Span
     ensures { result ≡ uid_span r }
 {
     span_of(fields::has_uid(r.head), r.places.uid, 14)
 }
 
+#[tactic(auto, unfolding(crate::specs::Spans::counter_span))]
 fn counter_span(r: Settings) -> Span
     ensures { result ≡ counter_span r }
 {
     span_of(fields::has_counter(r.head), r.places.counter, 6)
 }
 
+#[tactic(auto, unfolding(crate::specs::Spans::picc_span))]
 fn picc_span(r: Settings) -> Span
     ensures { result ≡ picc_span r }
 {
     span_of(fields::has_picc(r.head), r.places.picc, 32)
 }
 
+#[tactic(auto, unfolding(crate::specs::Spans::enc_span))]
 fn enc_span(r: Settings) -> Span
     ensures { result ≡ enc_span r }
 {
     span_of(fields::has_enc(r.head), r.places.enc, r.places.size)
 }
 
+#[tactic(auto, unfolding(crate::specs::Spans::mac_span))]
 fn mac_span(r: Settings) -> Span
     ensures { result ≡ mac_span r }
 {
@@ -75,6 +74,7 @@ fn mac_span(r: Settings) -> Span
 }
 
 // The record of a string with its spans.
+#[tactic(auto, unfolding(crate::specs::Spans::reading_of))]
 pub fn reading_of(r: Settings) -> Reading
     ensures { result ≡ reading_of r }
 {
@@ -92,16 +92,11 @@ pub fn reading_of(r: Settings) -> Reading
 fn end_of(a: Span) -> u64
     ensures { result ≡ end_of a }
 {
-    wide(a.start) + wide(a.size)
-}
-
-fn wide(x: u32) -> u64
-    ensures { (result ≡ x) × (result < 2 ^ 32) }
-{
-    x as u64
+    u64::from(a.start) + u64::from(a.size)
 }
 
 // Whether a span lies inside a file of 256 bytes.
+#[tactic(auto, unfolding(crate::specs::Spans::inside))]
 pub fn is_inside(a: Span) -> bool
     ensures { result ≡ inside a }
 {
@@ -109,10 +104,11 @@ pub fn is_inside(a: Span) -> bool
 }
 
 // Whether two spans share no byte.
+#[tactic(auto, unfolding(crate::specs::Spans::apart))]
 fn are_apart(a: Span, b: Span) -> bool
     ensures { result ≡ apart a b }
 {
-    truth::either(end_of(a) <= wide(b.start), end_of(b) <= wide(a.start))
+    end_of(a) <= u64::from(b.start) || end_of(b) <= u64::from(a.start)
 }
 
 // Whether no two of the spans share a byte. The search ends at the first pair that does.
@@ -120,19 +116,13 @@ pub fn all_apart(spans: [Span; 5]) -> bool
     ensures { result ≡ all_apart spans }
 {
     let mut clear = true;
-    let mut i: usize = 0;
-    'pairs: while i < 5 {
-        let a = spans[i];
-        let mut j: usize = i + 1;
-        while j < 5 {
-            let b = spans[j];
+    'pairs: for (i, &a) in spans.iter().enumerate() {
+        for &b in &spans[i + 1..] {
             clear = are_apart(a, b);
             if !clear {
                 break 'pairs;
             }
-            j += 1;
         }
-        i += 1;
     }
     clear
 }
