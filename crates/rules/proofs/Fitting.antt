@@ -1,6 +1,6 @@
 -- One step of the test whether every field fits.
-use mathlib.Core.Path.{◌≡◌, refl}
-use mathlib.Core.Bool.{Bool, true, false}
+use mathlib.Core.Path.{◌≡◌}
+use mathlib.Core.Bool.{Bool, false}
 use mathlib.Core.List.{List}
 use Prim.Native.Nat.{ℕ, ◌+◌, ◌<◌}
 use native.Mathlib.Numerals.{add-one}
@@ -13,11 +13,3 @@ pub fit-step : (ps : List Bool) (vs : List ℕ) (i : ℕ) → i < length ps → 
     → fields_fit (drop i ps) (drop i vs) ≡ and (field_fits (get_or ps i false) (get_or vs i 0)) (fields_fit (drop (i + 1) ps) (drop (i + 1) vs))
 unfolding fields_fit
 fit-step ps vs i h k = rw (add-one, drop-cons ps i false h, drop-cons vs i 0 k)
-
-pub and_assoc : (a b c : Bool) → and (and a b) c ≡ and a (and b c)
-and_assoc true b c = refl
-and_assoc false b c = refl
-
-pub and_true : (a : Bool) → and a true ≡ a
-and_true true = refl
-and_true false = refl

@@ -1,3 +1,2 @@
 pub mod Fitting
 pub mod Found
-pub mod Meant

@@ -1,5 +1,5 @@
 -- The rules by their place in 01's order, 1 to 22; 0 where every rule holds.
-use Rattle.std.specs.Prelude.{List, [], ◌∷◌, ℕ}
+use Rattle.std.specs.Prelude.{List, [], ◌∷◌, ℕ, Result, Ok, Err}
 use Rattle.base.specs.Decide.{pick}
 use Rattle.rules.specs.declared.Part.{Part}
 use Rattle.rules.specs.declared.Part.TheVariants.{OptionByte, RightsBytes, SdmOptionsByte, SdmRightsBytes, Whole}
@@ -8,8 +8,8 @@ use Rattle.rules.specs.declared.Check.TheVariants.{OptionBits, SdmFile, Rights, 
 use Rattle.rules.specs.declared.Check.TheVariants.{MetaMirrors, MetaOff, EncNeeds, EncSize}
 use Rattle.rules.specs.declared.Check.TheVariants.{UidInside, CounterInside, PiccInside, EncInside, MacInside}
 use Rattle.rules.specs.declared.Check.TheVariants.{Shared, MacInput, EncBetween}
-use Rattle.rules.specs.declared.Finding.{Finding}
-use Rattle.rules.specs.declared.Finding.TheVariants.{Kept, Missing, Wrong}
+use Rattle.rules.specs.declared.findings.Broken.{Broken}
+use Rattle.rules.specs.declared.findings.Broken.TheVariants.{Missing, Wrong}
 use Rattle.rules.specs.Rules.{Rule}
 
 unfoldable pub part_number : Part → ℕ
@@ -38,12 +38,15 @@ check_number Shared = 20
 check_number MacInput = 21
 check_number EncBetween = 22
 
-unfoldable pub finding_number : Finding → ℕ
-finding_number Kept = 0
-finding_number (Missing p) = part_number p
-finding_number (Wrong k) = check_number k
+unfoldable pub broken_number : Broken → ℕ
+broken_number (Missing p) = part_number p
+broken_number (Wrong k) = check_number k
+
+unfoldable pub finding_number : Result (Unit {0}) Broken → ℕ
+finding_number (Ok _) = 0
+finding_number (Err e) = broken_number e
 
 -- the number of the first rule that does not hold
 unfoldable pub first_number : List Rule → ℕ
 first_number [] = 0
-first_number (e ∷ es) = pick e.holds (first_number es) (finding_number e.otherwise)
+first_number (e ∷ es) = pick e.holds (first_number es) (broken_number e.otherwise)

@@ -1,6 +1,6 @@
 -- The rules for a settings string (01, "Settings strings": Rules and Order; Table 69), in 01's order, each with its name. The
 -- first that does not hold answers.
-use Rattle.std.specs.Prelude.{Bool, true, false, not, List, [], ◌∷◌, ℕ, ◌+◌, ◌/◌, ◌%◌, ◌^◌, eqb, leb, ltb, length}
+use Rattle.std.specs.Prelude.{Bool, true, false, not, List, [], ◌∷◌, ℕ, ◌+◌, ◌/◌, ◌%◌, ◌^◌, eqb, leb, ltb, length, Result, Ok, Err}
 use Rattle.base.specs.Decide.{pick, and, or}
 use Rattle.base.specs.Bytes.{byte_at}
 use Rattle.fields.specs.declared.Head.{Head}
@@ -12,8 +12,8 @@ use Rattle.rules.specs.declared.Check.TheVariants.{OptionBits, SdmFile, Rights, 
 use Rattle.rules.specs.declared.Check.TheVariants.{MetaMirrors, MetaOff, EncNeeds, EncSize}
 use Rattle.rules.specs.declared.Check.TheVariants.{UidInside, CounterInside, PiccInside, EncInside, MacInside}
 use Rattle.rules.specs.declared.Check.TheVariants.{Shared, MacInput, EncBetween}
-use Rattle.rules.specs.declared.Finding.{Finding}
-use Rattle.rules.specs.declared.Finding.TheVariants.{Kept, Missing, Wrong}
+use Rattle.rules.specs.declared.findings.Broken.{Broken}
+use Rattle.rules.specs.declared.findings.Broken.TheVariants.{Missing, Wrong}
 use Rattle.rules.specs.declared.Examined.{Examined}
 use Rattle.fields.specs.Fields.{sdm_on, head_of, read_of, has_mac, has_enc, present, listed, places_in, size_of}
 use Rattle.spans.specs.Spans.{uid_span, counter_span, picc_span, enc_span, mac_span, spans_of, reading_of, inside, all_apart}
@@ -21,7 +21,7 @@ use Rattle.spans.specs.Spans.{uid_span, counter_span, picc_span, enc_span, mac_s
 -- A rule: a part that must be there whole, or a test that must hold
 pub record Rule : Type 0 where
   pub holds : Bool
-  pub otherwise : Finding
+  pub otherwise : Broken
 
 abbrev pub there : Part → Bool → Rule
 there p b = record { holds = b; otherwise = Missing p }
@@ -30,9 +30,9 @@ abbrev pub right : Check → Bool → Rule
 right k b = record { holds = b; otherwise = Wrong k }
 
 -- the first rule that does not hold
-unfoldable pub found : List Rule → Finding
-found [] = Kept
-found (e ∷ es) = pick e.holds (found es) e.otherwise
+unfoldable pub found : List Rule → Result (Unit {0}) Broken
+found [] = Ok tt
+found (e ∷ es) = pick e.holds (found es) (Err e.otherwise)
 
 -- FileOption bits 7, 5 to 2 zero
 unfoldable pub option_bits : ℕ → Bool
@@ -139,10 +139,9 @@ fields_fit (p ∷ ps) (v ∷ vs) = and (field_fits p v) (fields_fit ps vs)
 fields_fit [] vs = true
 fields_fit (p ∷ ps) [] = true
 
-unfoldable pub kept : Finding → Bool
-kept Kept = true
-kept (Missing p) = false
-kept (Wrong k) = false
+unfoldable pub kept : Result (Unit {0}) Broken → Bool
+kept (Ok _) = true
+kept (Err e) = false
 
 -- what a record with SDM on meets
 unfoldable pub sdm_meets : Settings → Bool

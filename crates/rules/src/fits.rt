@@ -6,27 +6,23 @@ ghost use Rattle.rules.specs.Rules.{field_fits, fields_fit};
 use fields::Settings;
 
 // Whether a present field has three bytes and an absent one is 0.
+#[tactic(auto, unfolding(crate::specs::Rules::field_fits))]
 fn field_fits(present: bool, v: u32) -> bool
     ensures { result ≡ field_fits present v }
 {
-    if present {
-        return v < 16777216;
-    }
-    v == 0
+    if present { v < 16777216 } else { v == 0 }
 }
 
 // Whether every field fits.
-fn all_fit(there: [bool; 8], v: [u32; 8]) -> bool
-    ensures { result ≡ fields_fit there v }
+fn all_fit(there: [bool; 8], numbers: [u32; 8]) -> bool
+    ensures { result ≡ fields_fit there numbers }
 {
-    let mut fit = true;
-    let mut i: usize = 0;
-    while i < 8 {
-        let next = truth::both(fit, field_fits(there[i], v[i]));
-        fit = next;
-        i += 1;
+    for (i, &present) in there.iter().enumerate() {
+        if !field_fits(present, numbers[i]) {
+            return false;
+        }
     }
-    fit
+    true
 }
 
 pub fn fields_fit(r: Settings) -> bool

@@ -3,7 +3,6 @@
 
 ghost use Rattle.std.specs.Prelude.{◌≡◌};
 ghost use Rattle.fields.specs.Fields.{head_of, read_of};
-ghost use Rattle.spans.specs.Spans.{reading_of};
 ghost use Rattle.rules.specs.Rules.{found, sdm_rules, rest_rules, rules, examined};
 ghost use Rattle.rules.specs.Numbers.{finding_number, first_number};
 
@@ -12,11 +11,14 @@ mod findings;
 mod fits;
 mod records;
 
+use fields::Settings;
+pub use findings::Broken;
+use findings::{right, there};
 pub use records::record_meets as meets;
 use spans::Reading;
 
 // The parts that 01 calls missing, the last for a whole length that is wrong.
-#[derive(Clone, Copy)]
+#[derive(Clone, Copy, Debug, PartialEq, Eq)]
 pub enum Part {
     OptionByte,
     RightsBytes,
@@ -26,7 +28,7 @@ pub enum Part {
 }
 
 // The tests of 01, in its order.
-#[derive(Clone, Copy)]
+#[derive(Clone, Copy, Debug, PartialEq, Eq)]
 pub enum Check {
     OptionBits,
     SdmFile,
@@ -47,72 +49,78 @@ pub enum Check {
     EncBetween,
 }
 
-// The first rule that a string breaks.
-#[derive(Clone, Copy)]
-pub enum Finding {
-    Kept,
-    Missing(Part),
-    Wrong(Check),
-}
-
 // The first rule that a string breaks, and what the string means, good or not.
-#[derive(Clone, Copy)]
+#[derive(Clone, Copy, Debug, PartialEq, Eq)]
 pub struct Examined {
-    pub finding: Finding,
+    pub finding: Result<(), Broken>,
     pub reading: Reading,
 }
 
 // With SDM on: options, SDM rights, the whole length, positions. r is what the string means.
-fn sdm_broken(s: &[u8], r: Reading) -> Finding
-    requires { r ≡ reading_of (read_of s.now) }
+#[tactic(auto, unfolding(crate::specs::Rules::found, crate::specs::Rules::sdm_rules, fields::specs::Fields::read_of))]
+fn sdm_broken(s: &[u8], r: Settings) -> Result<(), Broken>
+    requires { r ≡ read_of s.now }
     ensures { result ≡ found (sdm_rules s.now (head_of s.now)) }
 {
-    let h = r.settings.head;
-    let placed = findings::positions(r.settings);
-    let f8 = findings::there(Part::Whole, s.len() == fields::size_of(h), placed);
-    let f7 = findings::right(Check::EncNeeds, checks::enc_needs(h), f8);
-    let f6 = findings::right(Check::MetaOff, checks::meta_off(h), f7);
-    let f5 = findings::right(Check::MetaMirrors, checks::meta_mirrors(h), f6);
-    let f4 = findings::right(Check::SdmRights, checks::sdm_rights(h), f5);
-    let f3 = findings::there(Part::SdmRightsBytes, 6 <= s.len(), f4);
-    let f2 = findings::right(
+    let h = r.head;
+    there(Part::SdmOptionsByte, 4 <= s.len())?;
+    right(
         Check::SdmOptionsBits,
         checks::sdm_options_bits(base::at(s, 3)),
-        f3,
-    );
-    findings::there(Part::SdmOptionsByte, 4 <= s.len(), f2)
+    )?;
+    there(Part::SdmRightsBytes, 6 <= s.len())?;
+    right(Check::SdmRights, checks::sdm_rights(h))?;
+    right(Check::MetaMirrors, checks::meta_mirrors(h))?;
+    right(Check::MetaOff, checks::meta_off(h))?;
+    right(Check::EncNeeds, checks::enc_needs(h))?;
+    there(Part::Whole, s.len() == fields::size_of(h))?;
+    findings::positions(r)
 }
 
 // What follows the rights. r is what the string means.
-fn rest_broken(s: &[u8], r: Reading) -> Finding
-    requires { r ≡ reading_of (read_of s.now) }
+#[tactic(auto, unfolding(crate::specs::Rules::found, crate::specs::Rules::rest_rules, fields::specs::Fields::read_of, fields::specs::Fields::head_of))]
+fn rest_broken(s: &[u8], r: Settings) -> Result<(), Broken>
+    requires { r ≡ read_of s.now }
     ensures { result ≡ found (rest_rules s.now (head_of s.now)) }
 {
-    let h = r.settings.head;
-    if h.sdm {
-        return sdm_broken(s, r);
+    if r.head.sdm {
+        sdm_broken(s, r)
+    } else {
+        there(Part::Whole, s.len() == fields::size_of(r.head))
     }
-    findings::there(Part::Whole, s.len() == fields::size_of(h), Finding::Kept)
+}
+
+// The first rule that a string breaks. r is what the string means.
+#[tactic(auto, unfolding(crate::specs::Rules::found, crate::specs::Rules::rules, fields::specs::Fields::read_of))]
+fn first_broken(file: u8, s: &[u8], r: Settings) -> Result<(), Broken>
+    requires { r ≡ read_of s.now }
+    ensures { result ≡ found (rules file s.now) }
+{
+    let h = r.head;
+    there(Part::OptionByte, 1 <= s.len())?;
+    right(Check::OptionBits, checks::option_bits(base::at(s, 0)))?;
+    right(Check::SdmFile, checks::sdm_file(file, h))?;
+    there(Part::RightsBytes, 3 <= s.len())?;
+    right(Check::Rights, checks::rights_kept(h))?;
+    rest_broken(s, r)
 }
 
 // The first rule that a string breaks, and what it means: it is read once.
+#[tactic(auto, unfolding(crate::specs::Rules::examined, spans::specs::Spans::reading_of), using(crate::proofs::Found::found_number))]
 pub fn examine(file: u8, s: &[u8]) -> Examined
     ensures told { result ≡ examined file s.now }
     ensures number { finding_number result.finding ≡ first_number (rules file s.now) }
 {
     let reading = spans::meaning(s);
-    let h = reading.settings.head;
-    let f6 = rest_broken(s, reading);
-    let f5 = findings::right(Check::Rights, checks::rights_kept(h), f6);
-    let f4 = findings::there(Part::RightsBytes, 3 <= s.len(), f5);
-    let f3 = findings::right(Check::SdmFile, checks::sdm_file(file, h), f4);
-    let f2 = findings::right(Check::OptionBits, checks::option_bits(base::at(s, 0)), f3);
-    let finding = findings::there(Part::OptionByte, 1 <= s.len(), f2);
-    Examined { finding, reading }
+    Examined {
+        finding: first_broken(file, s, reading.settings),
+        reading,
+    }
 }
 
 // The first rule that a string breaks.
-pub fn broken(file: u8, s: &[u8]) -> Finding
+#[tactic(auto, unfolding(crate::specs::Rules::examined))]
+pub fn broken(file: u8, s: &[u8]) -> Result<(), Broken>
     ensures told { result ≡ found (rules file s.now) }
     ensures number { finding_number result ≡ first_number (rules file s.now) }
 {
