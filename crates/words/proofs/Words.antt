@@ -3,8 +3,9 @@ use mathlib.Core.Path.{◌≡◌, refl, ap, ◌∙◌}
 use mathlib.Core.List.{List, [], ◌∷◌, ◌++◌}
 use Prim.Native.Nat.{ℕ, ◌+◌, ◌*◌, ◌/◌, ◌%◌, ◌<◌}
 use native.Mathlib.Omega.{arith}
-use lib.Bits.{xor_comm, xor_mod, xor_shr}
+use lib.Bits.{bit_or, or_shifted, xor_comm, xor_mod, xor_shr}
 use lib.ListN.{length}
+use Rattle.std.specs.Int.{rotate_left, w32}
 use Rattle.base.specs.Bytes.{byte_at, AllBytes, tab}
 use Rattle.base.proofs.Pieces.{tab_of}
 use Rattle.sbox.specs.Field.{◌⊕◌, mul}
@@ -32,6 +33,25 @@ rows-packed a b c d ha hb hc hd =
 turn-packed : (a b c d : ℕ) → a < 256 → b < 256 → c < 256 → d < 256 → turn (packed a b c d) ≡ packed d a b c
 unfolding turn
 turn-packed a b c d ha hb hc hd = omega arith
+
+-- a word rotated by whole bytes is turned by as many rows
+pub rotated_once : (x : ℕ) → x < 4294967296 → rotate_left w32 x 8 ≡ turn x
+unfolding turn
+rotated_once x h =
+    let e : x * 256 % 4294967296 ≡ x % 16777216 * 256 = omega arith in
+    ap (λ y. bit_or y (x / 16777216)) e ∙ or_shifted (x % 16777216) 8 (x / 16777216) (omega arith)
+
+pub rotated_twice : (x : ℕ) → x < 4294967296 → rotate_left w32 x 16 ≡ turn (turn x)
+unfolding turn
+rotated_twice x h =
+    let e : x * 65536 % 4294967296 ≡ x % 65536 * 65536 = omega arith in
+    ap (λ y. bit_or y (x / 65536)) e ∙ or_shifted (x % 65536) 16 (x / 65536) (omega arith) ∙ omega arith
+
+pub rotated_thrice : (x : ℕ) → x < 4294967296 → rotate_left w32 x 24 ≡ turn (turn (turn x))
+unfolding turn
+rotated_thrice x h =
+    let e : x * 16777216 % 4294967296 ≡ x % 256 * 16777216 = omega arith in
+    ap (λ y. bit_or y (x / 256)) e ∙ or_shifted (x % 256) 24 (x / 256) (omega arith) ∙ omega arith
 
 -- the bytes of a sum are the sums of the bytes
 byte_xor : (x y : ℕ) → (x ⊕ y) % 256 ≡ x % 256 ⊕ y % 256
