@@ -3,7 +3,7 @@ use mathlib.Core.Bool.{Bool, true, false}
 use Prim.Native.Nat.{ℕ, ◌+◌, ◌/◌, ◌≤◌}
 use native.Mathlib.Omega.{arith}
 use Rattle.cbc.specs.Cbc.{cbc_cost}
-use Rattle.cmac.specs.Cmac.{blocks_of, cmac_cost}
+use Rattle.cmac.specs.Cmac.{cmac_cost}
 use Rattle.cmac.proofs.Macs.{blocks_few}
 use Rattle.messaging.specs.Protect.{message_mac_cost, part_cost, signed_cost}
 use Rattle.messaging.specs.declared.Mode.{Mode}

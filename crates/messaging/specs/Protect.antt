@@ -1,5 +1,5 @@
 -- 9.1.4, 9.1.9 and 9.1.10: the MAC of a message, the initial vectors, and what a message holds.
-use Rattle.std.specs.Prelude.{Bool, true, List, [], ◌∷◌, ◌++◌, ℕ, ◌+◌, take, replicate}
+use Rattle.std.specs.Prelude.{Bool, true, Option, Some, None, List, [], ◌∷◌, ◌++◌, ℕ, ◌+◌, take, replicate}
 use Rattle.base.specs.Decide.{pick}
 use Rattle.base.specs.Bytes.{low, same}
 use Rattle.aes.specs.Block.{cipher, block_cost}
@@ -10,8 +10,6 @@ use Rattle.padding.specs.Padding.{padded, unpad}
 use Rattle.messaging.specs.declared.Session.{Session}
 use Rattle.messaging.specs.declared.Mode.{Mode}
 use Rattle.messaging.specs.declared.Mode.TheVariants.{Plain, Mac, Full}
-use Rattle.padding.specs.declared.Unpadded.{Unpadded}
-use Rattle.padding.specs.declared.Unpadded.TheVariants.{Text, Wrong}
 
 -- 9.1.9: the MAC of a command covers Cmd, CmdCtr, TI, header and data, that of a reply the return code, CmdCtr, TI and data;
 -- CmdCtr low byte first
@@ -70,9 +68,9 @@ pub data Opening : Type 0 where
   wrong_mac : Opening
   wrong_padding : Opening
 
-abbrev pub text_of : List ℕ → Unpadded → Opening
-text_of s (Text n) = plain (take n s)
-text_of s Wrong = wrong_padding
+abbrev pub text_of : List ℕ → Option ℕ → Opening
+text_of s (Some n) = plain (take n s)
+text_of s None = wrong_padding
 
 -- the data that a part holds
 unfoldable pub content : Mode → Session → List ℕ → Bool → List ℕ → Opening

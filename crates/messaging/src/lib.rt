@@ -6,7 +6,7 @@ mod protect;
 pub use protect::{command_iv, command_vector, message_mac, reply_iv, reply_vector};
 
 // How a command and its reply are protected.
-#[derive(Clone, Copy)]
+#[derive(Clone, Copy, Debug, PartialEq, Eq)]
 pub enum Mode {
     Plain,
     Mac,
