@@ -13,6 +13,7 @@ impl<const N: usize> Buffer<N> {
     // No text.
     pub fn empty() -> Buffer<N>
         ensures text { text_of result ≡ [] }
+        ensures length { result.length ≡ 0 }
         ensures zeros { result.bytes ≡ replicate N 0 }
     {
         Buffer {

@@ -1,7 +1,8 @@
 -- An accepted command's reply, told by what closing it answers.
-use mathlib.Core.Path.{◌≡◌, refl, sym, ap, ap₂, subst, ◌∙◌}
+use mathlib.Core.Path.{◌≡◌, refl, sym, ap, ap₂, ◌∙◌}
 use mathlib.Core.Bool.{Bool, true, false}
-use mathlib.Core.List.{List}
+use mathlib.Core.List.{List, []}
+use mathlib.Core.Logic.{◌⊎◌, ⊎_elim}
 use Prim.Native.Nat.{ℕ, min, ◌≤◌}
 use native.Mathlib.Omega.{arith}
 use lib.Dec.{ltb}
@@ -20,7 +21,8 @@ use Rattle.closing.proofs.Closing.{short}
 use Rattle.both_ends.proofs.Messages.{closed-length}
 use Rattle.state.specs.State.{talking, session_of}
 use Rattle.state.specs.declared.Tag.{Tag}
-use Rattle.replies.specs.Answer.{given_for, refusal, raised, afterwards, accepted, answer_of, Gives}
+use Rattle.replies.specs.Answer.{given_for, refusal, raised, afterwards, accepted}
+use Rattle.replies.proofs.Given.{cut_given}
 
 -- ---- what closing's answer says of its two questions
 record Replied (o : Bool) (r l k n : ℕ) (now new : List ℕ) : Type 0 where
@@ -55,6 +57,15 @@ accepted-short : (t : Tag) (m : Mode) (d : List ℕ) → overlong m (length d) �
 unfolding accepted
 accepted-short t m d e = rw e refl
 
+-- a closed reply has at most 256 bytes
+pub reply_short : (m : Mode) (k : ℕ) (old : List ℕ) (r : ℕ) → Reply r ≡ closing m k old → r ≤ 256
+unfolding closing
+reply_short m k old r e =
+    let o = overlong m k in
+    let q = ltb (length old) (closed_length m k) in
+    let w = reply-told o q r (closed_length m k) (pick o 0 (pick q 0 0)) 0 old [] (pick o old (pick q old [])) e refl refl in
+    omega (arith, short m k w.fits, w.count)
+
 -- the first k bytes of a room, closed there
 module _ (t : Tag) (m : Mode) (s : Session) (old new : List ℕ) (k : ℕ) (x : ClosedFor) (l : length old ≡ 258) (f : k ≤ 256) (c : Closes s m 0 k old x new) where
   front_length : length (take k old) ≡ k
@@ -74,39 +85,39 @@ module _ (t : Tag) (m : Mode) (s : Session) (old new : List ℕ) (k : ℕ) (x : 
       omega (arith, l, short m k w.0, ltb-true (length old) (closed_length m k) w.1)
 
   reply-given : (u : Tag) (r : ℕ) → x.closed ≡ Reply r → length s.enc ≡ 16 → AllBytes s.enc → AllBytes old → u ≡ afterwards t
-      → s ≡ session_of u.live → Gives (accepted t m (take k old)) (record { status = 0x9100; length = r; bytes = new; tag = u; cost = x.cost })
-  unfolding closing closing_cost closed_in afterwards answer_of talking
+      → s ≡ session_of u.live → (given_for x.cost u 0x9100 (take r new) ≡ accepted t m (take k old)) × (r ≤ 256)
+  unfolding closing closing_cost closed_in afterwards talking
   reply-given u r e n b h g i =
       let d = take k old in
       let w = reply-told (overlong m k) (ltb (length old) (closed_length m k)) r (closed_length m k) x.cost (closed_cost m k) old (over (closed s m 0 d) old) new
       (sym e ∙ c.answer) c.cost c.room in
       let j : s ≡ session_of (raised t.live) = i ∙ ap (λ (y : Tag). session_of y.live) g in
       let q : length (closed s m 0 d) ≡ r =
-      closed-length s m 0 d n b (take-bytes k old h) ∙ ap (closed_length m) front_length ∙ sym w.count in
-      record {
-        says =
-            ap₂ (λ y z. given_for x.cost y 0x9100 z) g
+      closed-length s m 0 d n b (take-bytes k old h) ∙ ap (closed_length m) front_length ∙ sym w.count in (
+        ap₂ (λ y z. given_for x.cost y 0x9100 z) g
             (ap (take r) w.room ∙ take_at (closed s m 0 d) (drop (length (closed s m 0 d)) old) r q ∙ ap (λ y. closed y m 0 d) j)
             ∙ ap (λ y. given_for y (afterwards t) 0x9100 (closed (session_of (raised t.live)) m 0 d)) (w.cost ∙ ap (closed_cost m) (sym front_length))
-            ∙ sym (accepted-short t m d (ap (overlong m) front_length ∙ w.fits));
-        short = omega (arith, short m k w.fits, w.count);
-      }
+            ∙ sym (accepted-short t m d (ap (overlong m) front_length ∙ w.fits)),
+        omega (arith, short m k w.fits, w.count),
+      )
 
--- the same, where k is the smaller of n and 256
+-- the same of the first n bytes, at most 256
 module _ (t : Tag) (m : Mode) (s : Session) (old new : List ℕ) (n k : ℕ) (x : ClosedFor) (l : length old ≡ 258) (p : k ≡ min n 256)
     (c : Closes s m 0 k old x new) where
   within : k ≤ 256
   within = omega arith
 
-  pub accepts-over : x.closed ≡ Over → accepted t m (take (min n 256) old) ≡ refusal t 0x917E
-  accepts-over e = ap (λ y. accepted t m (take y old)) (sym p) ∙ over-refused t m s old new k x l within c e
+  part : take k old ≡ take 256 (take n old)
+  part = ap (λ y. take y old) p ∙ cut_given n old
 
-  pub accepts_small : x.closed ≡ Small → accepted t m (take (min n 256) old) ≡ refusal t 0x917E
-  accepts_small e = absurd (small_never t m s old new k x l within c e)
+  pub accepts_not : (x.closed ≡ Over) ⊎ (x.closed ≡ Small) → refusal t 0x917E ≡ accepted t m (take 256 (take n old))
+  accepts_not e =
+      ⊎_elim (λ h. sym (over-refused t m s old new k x l within c h) ∙ ap (accepted t m) part)
+      (λ h. absurd (small_never t m s old new k x l within c h)) e
 
   pub accepts-reply : (u : Tag) (r : ℕ) → x.closed ≡ Reply r → length s.enc ≡ 16 → AllBytes s.enc → AllBytes old
       → u ≡ afterwards t → s ≡ session_of u.live
-      → Gives (accepted t m (take (min n 256) old)) (record { status = 0x9100; length = r; bytes = new; tag = u; cost = x.cost })
+      → (given_for x.cost u 0x9100 (take r new) ≡ accepted t m (take 256 (take n old))) × (r ≤ 256)
   accepts-reply u r e h b a g i =
-      subst (λ y. Gives (accepted t m (take y old)) (record { status = 0x9100; length = r; bytes = new; tag = u; cost = x.cost })) p
-      (reply-given t m s old new k x l within c u r e h b a g i)
+      let w = reply-given t m s old new k x l within c u r e h b a g i in
+      (w.0 ∙ ap (accepted t m) part, w.1)

@@ -1,13 +1,27 @@
 -- What is given of a room.
-use mathlib.Core.Path.{◌≡◌, refl, ap, ◌∙◌}
+use mathlib.Core.Path.{◌≡◌, refl, sym, ap, ◌∙◌}
 use mathlib.Core.List.{List}
+use mathlib.Core.Logic.{⊎_elim}
 use Prim.Native.Nat.{ℕ, min, ◌+◌, ◌≤◌}
 use native.Mathlib.Omega.{arith}
-use lib.ListN.{length, take, replicate}
+use lib.ListN.{length, take, replicate, length-take}
+use lib.Seq.{take_all, take-take}
 use Rattle.base.specs.Bytes.{laid}
-use Rattle.base.proofs.Bytes.{none, more, front}
+use Rattle.base.proofs.Bytes.{none, more, front, le_or_lt}
 use Rattle.state.specs.declared.Tag.{Tag}
 use Rattle.replies.specs.Answer.{given_for, room_given}
+
+-- the first 256 of the first n
+pub cut_given : (n : ℕ) (s : List ℕ) → take (min n 256) s ≡ take 256 (take n s)
+cut_given n s =
+    ⊎_elim (λ h. let e : min n 256 ≡ n = omega arith in
+    ap (λ k. take k s) e ∙ sym (take_all 256 (take n s) (omega (arith, length-take n s))))
+    (λ h. let e : min n 256 ≡ 256 = omega arith in ap (λ k. take k s) e ∙ sym (take-take 256 n s (omega arith)))
+    (le_or_lt n 256)
+
+-- at most 256 bytes are given whole
+pub short_given : (n : ℕ) (s : List ℕ) → take 256 (take (min n 256) s) ≡ take (min n 256) s
+short_given n s = take_all 256 (take (min n 256) s) (omega (arith, length-take (min n 256) s))
 
 -- what is laid into an empty room, at most 256 bytes, is given whole
 given-whole : (s b : List ℕ) → length s ≤ 256 → b ≡ laid s 0 (replicate 258 0) → take (min (length s) 256) b ≡ s

@@ -3,6 +3,8 @@ use Rattle.std.specs.Prelude.{List, [], ◌≡◌, ℕ, min, ◌+◌, ◌≤◌,
 use Rattle.base.specs.Decide.{pick}
 use Rattle.base.specs.Bytes.{laid}
 use Rattle.base.specs.Status.{operation_ok}
+use Rattle.buffers.specs.Text.{text_of}
+use Rattle.statuses.specs.Words.{status_word}
 use Rattle.messaging.specs.declared.Mode.{Mode}
 use Rattle.closing.specs.declared.Closed.TheVariants.{Over}
 use Rattle.closing.specs.Reply.{closed, overlong, closed_status, closed_cost}
@@ -60,8 +62,8 @@ room_given n t status e = given_for n t status (take (min (length e) 256) (laid 
 
 -- of the code, not the paper: what its answer says, data in a buffer of 258 bytes, of which at most 256 count
 unfoldable pub answer_of : Done → Answer
-answer_of d = given_for d.cost d.tag d.status (take d.length d.bytes)
+answer_of d = given_for d.cost d.tag (status_word d.status) (text_of d.data)
 
 pub record Gives (a : Answer) (d : Done) : Type 0 where
   pub says : answer_of d ≡ a
-  pub short : d.length ≤ 256
+  pub short : d.data.length ≤ 256

@@ -1,118 +1,102 @@
 // What a command is answered: a status, data and the next state. Refusals and accepted commands.
 #![tactic(auto)]
 
-ghost use Rattle.std.specs.Prelude.{◌≡◌, min, take};
+ghost use Rattle.std.specs.Prelude.{◌≡◌, take};
+ghost use Rattle.buffers.specs.Text.{text_of};
+ghost use Rattle.statuses.specs.Words.{status_word};
 ghost use Rattle.replies.specs.Answer.{Gives, refusal, given_for, room_given, accepted, raised, afterwards};
 
+use buffers::Buffer;
 use closing::Closed;
 use messaging::Mode;
 use state::{Live, Tag};
+use statuses::Status;
 
-// An answer: the status, as many bytes of data as the length says, the next state, and how many blocks were computed.
+// An answer: the status, the data, the next state, and how many blocks were computed.
 #[derive(Clone, Copy)]
 pub struct Done {
-    pub status: u16,
-    pub length: usize,
-    pub bytes: [u8; 258],
+    pub status: Status,
+    pub data: Buffer<258>,
     pub tag: Tag,
     pub cost: usize,
 }
 
-// Bytes for a reply at the front of a room, and how many.
-#[derive(Clone, Copy)]
-pub struct Excerpt {
-    pub bytes: [u8; 258],
-    pub length: usize,
-}
-
-// The smaller of two numbers.
-pub fn smaller(a: usize, b: usize) -> usize
-    ensures { result ≡ min a b }
-{
-    if a < b {
-        return a;
-    }
-    b
-}
-
 // A refusal by status: no data; session, pending part two and tap end.
-pub fn refuse(tag: Tag, status: u16) -> Done
-    ensures { Gives (refusal tag status) result }
+#[tactic(auto, unfolding(crate::specs::Answer::answer_of, crate::specs::Answer::refusal))]
+pub fn refuse(tag: Tag, status: Status) -> Done
+    ensures { Gives (refusal tag (status_word status)) result }
 {
     Done {
         status,
-        length: 0,
-        bytes: [0; 258],
+        data: Buffer::empty(),
         tag: state::ended(tag),
         cost: 0,
     }
 }
 
-// The first n bytes as they are, at most 256, under a status, for so many blocks.
-pub fn give(tag: Tag, status: u16, bytes: [u8; 258], n: usize, cost: usize) -> Done
-    ensures { Gives (given_for cost tag status (take (min n 256) bytes)) result }
+// The data as they are, at most 256 bytes of them, under a status, for so many blocks.
+#[tactic(auto, unfolding(crate::specs::Answer::answer_of), using(crate::proofs::Given::cut_given))]
+pub fn give(tag: Tag, status: Status, reply: Buffer<258>, cost: usize) -> Done
+    ensures { Gives (given_for cost tag (status_word status) (take 256 (text_of reply))) result }
 {
+    let bytes = reply.bytes;
+    let length = reply.length.min(256);
     Done {
         status,
-        length: smaller(n, 256),
-        bytes,
+        data: Buffer { bytes, length },
         tag,
         cost,
     }
 }
 
 // A text as it is, up to 256 bytes of it, under a status, for so many blocks.
-pub fn give_text(tag: Tag, status: u16, e: &[u8], cost: usize) -> Done
-    ensures { Gives (room_given cost tag status e.now) result }
+#[tactic(auto, unfolding(crate::specs::Answer::room_given), using(crate::proofs::Given::short_given))]
+pub fn give_text(tag: Tag, status: Status, text: &[u8], cost: usize) -> Done
+    ensures { Gives (room_given cost tag (status_word status) text.now) result }
 {
-    let mut bytes = [0u8; 258];
-    base::put(e, &mut bytes, 0);
-    give(tag, status, bytes, e.len(), cost)
+    let mut bytes = [0; 258];
+    base::put(text, &mut bytes, 0);
+    let length = text.len().min(256);
+    give(tag, status, Buffer { bytes, length }, cost)
 }
 
 // CmdCtr rises by one in session.
-fn raise(l: Live) -> Live
-    ensures { result ≡ raised l }
+#[tactic(auto, unfolding(crate::specs::Answer::raised))]
+fn raise(live: Live) -> Live
+    ensures { result ≡ raised live }
 {
-    let mut next = l;
-    if l.on {
-        if l.counter < 65535 {
-            next.counter = l.counter + 1;
-        }
-    }
-    next
+    let counter = live.counter.saturating_add(u16::from(live.on));
+    Live { counter, ..live }
 }
 
 // The tag after an accepted command: CmdCtr is raised and no tap runs.
+#[tactic(auto, unfolding(crate::specs::Answer::afterwards, state::specs::State::talking))]
 pub fn after(tag: Tag) -> Tag
     ensures { result ≡ afterwards tag }
 {
-    let mut t = tag;
-    let l = raise(t.live);
-    let q = state::quiet(t.tap);
-    t.live = l;
-    t.tap = q;
-    t
+    Tag {
+        live: raise(tag.live),
+        tap: state::quiet(tag.tap),
+        ..tag
+    }
 }
 
-// An accepted command: the first n bytes are its data, closed in its mode.
-pub fn accept(tag: Tag, m: Mode, bytes: [u8; 258], n: usize) -> Done
-    ensures { Gives (accepted tag m (take (min n 256) bytes)) result }
+// An accepted command: its data, at most 256 bytes of them, closed in its mode.
+#[tactic(auto, using(crate::proofs::Accepting::reply_short))]
+pub fn accept(tag: Tag, mode: Mode, reply: Buffer<258>) -> Done
+    ensures { Gives (accepted tag mode (take 256 (text_of reply))) result }
 {
-    let t = after(tag);
-    let mut b = bytes;
-    let k = smaller(n, 256);
-    let c = closing::close(state::session_of(t.live), m, 0, &mut b, k);
-    let closed = c.closed;
-    match closed {
+    let next = after(tag);
+    let mut bytes = reply.bytes;
+    let n = reply.length.min(256);
+    let c = closing::close(state::session_of(next.live), mode, 0, &mut bytes, n);
+    match c.closed {
         Closed::Reply(length) => Done {
-            status: 0x9100,
-            length,
-            bytes: b,
-            tag: t,
+            status: Status::OperationOk,
+            data: Buffer { bytes, length },
+            tag: next,
             cost: c.cost,
         },
-        Closed::Over => refuse(tag, 0x917E),
-        Closed::Small => refuse(tag, 0x917E),
+        Closed::Over | Closed::Small => refuse(tag, Status::LengthError),
     }
 }
