@@ -12,23 +12,15 @@ pub fn status_of(reply: &[u8]) -> u16
         return 0;
     }
     let n = reply.len() - 2;
-    base::at(reply, n) as u16 * 256 + base::at(reply, n + 1) as u16
+    u16::from_be_bytes([reply[n], reply[n + 1]])
 }
 
 // Whether a status refuses: any but 9000, 9100 and 91AF.
+#[tactic(auto, unfolding(crate::specs::Replies::refusing))]
 pub fn refuses(status: u16) -> bool
     ensures { result ≡ refusing status }
 {
-    if status == 0x9000 {
-        return false;
-    }
-    if status == 0x9100 {
-        return false;
-    }
-    if status == 0x91AF {
-        return false;
-    }
-    true
+    !matches!(status, 0x9000 | 0x9100 | 0x91AF)
 }
 
 // Whether a reply is other than expected: it neither begins with these bytes nor are they its two status bytes.
@@ -39,15 +31,8 @@ pub fn differs(expected: &[u8], reply: &[u8]) -> bool
     if reply.len() < n {
         return true;
     }
-    if base::alike(expected, &reply[..n]) {
+    if expected == &reply[..n] {
         return false;
     }
-    if n != 2 {
-        return true;
-    }
-    let m = reply.len() - 2;
-    if base::alike(expected, &reply[m..]) {
-        return false;
-    }
-    true
+    n != 2 || expected != &reply[reply.len() - 2..]
 }
