@@ -1,5 +1,5 @@
 -- How many lines of a plan did what, and how many AES blocks they took.
-use Rattle.std.specs.Prelude.{Bool, ℕ, ◌+◌, eqb, leb}
+use Rattle.std.specs.Prelude.{Bool, ℕ, ◌+◌, eqb, leb, Option, None, Some}
 use Rattle.base.specs.Decide.{pick}
 use Rattle.tallies.specs.declared.Went.{Went}
 use Rattle.tallies.specs.declared.Tally.{Tally}
@@ -13,8 +13,8 @@ unfoldable pub more_by : ℕ → Bool → ℕ
 more_by n so = pick so (sum_by n 1) n
 
 -- the first line that was not as expected
-unfoldable pub first_by : ℕ → ℕ → Bool → ℕ → ℕ
-first_by first unmet so number = pick so (pick (eqb unmet 0) number first) first
+unfoldable pub first_by : Option ℕ → ℕ → Bool → ℕ → Option ℕ
+first_by first unmet so number = pick so (pick (eqb unmet 0) (Some number) first) first
 
 -- a line more, with its number
 unfoldable pub counted_by : Tally → ℕ → Went → Tally
@@ -31,4 +31,4 @@ counted_by n number w =
     }
 
 unfoldable pub no_tally : Tally
-no_tally = record { exchanges = 0; refused = 0; skipped = 0; undrawn = 0; expecting = 0; unmet = 0; first = 0; blocks = 0 }
+no_tally = record { exchanges = 0; refused = 0; skipped = 0; undrawn = 0; expecting = 0; unmet = 0; first = None; blocks = 0 }

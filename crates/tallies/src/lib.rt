@@ -6,7 +6,7 @@ ghost use Rattle.tallies.specs.Counts.{sum_by, more_by, first_by, counted_by, no
 
 // What a line did: a command was played, its reply refused; the line was skipped, since the machine gave no random bytes; it expected
 // something, and the reply was not that. And how many AES blocks were computed for it.
-#[derive(Clone, Copy)]
+#[derive(Clone, Copy, Debug, PartialEq, Eq)]
 pub struct Went {
     pub played: bool,
     pub refused: bool,
@@ -17,8 +17,8 @@ pub struct Went {
     pub blocks: u64,
 }
 
-// How many lines did each of these; the first line whose reply was not as expected, 0 where none was; the AES blocks of all lines.
-#[derive(Clone, Copy)]
+// How many lines did each of these; the first line whose reply was not as expected; the AES blocks of all lines.
+#[derive(Clone, Copy, Debug, PartialEq, Eq)]
 pub struct Tally {
     pub exchanges: u64,
     pub refused: u64,
@@ -26,43 +26,20 @@ pub struct Tally {
     pub undrawn: u64,
     pub expecting: u64,
     pub unmet: u64,
-    pub first: u64,
+    pub first: Option<u64>,
     pub blocks: u64,
 }
 
-// So many more, up to the largest number.
-fn sum(n: u64, k: u64) -> u64
-    ensures { result ≡ sum_by n k }
-{
-    if k <= 18446744073709551615 - n {
-        return n + k;
-    }
-    18446744073709551615
-}
-
 // One more where it is so.
+#[tactic(auto, unfolding(crate::specs::Counts::more_by, crate::specs::Counts::sum_by))]
 fn more(n: u64, so: bool) -> u64
     ensures { result ≡ more_by n so }
 {
-    if so {
-        return sum(n, 1);
-    }
-    n
-}
-
-// The first line that was not as expected.
-fn first_of(first: u64, unmet: u64, so: bool, number: u64) -> u64
-    ensures { result ≡ first_by first unmet so number }
-{
-    if so {
-        if unmet == 0 {
-            return number;
-        }
-    }
-    first
+    n.saturating_add(u64::from(so))
 }
 
 // A line more is counted.
+#[tactic(auto, unfolding(crate::specs::Counts::counted_by, crate::specs::Counts::first_by, crate::specs::Counts::sum_by))]
 pub fn counted(n: Tally, number: u64, w: Went) -> Tally
     ensures { result ≡ counted_by n number w }
 {
@@ -73,12 +50,17 @@ pub fn counted(n: Tally, number: u64, w: Went) -> Tally
         undrawn: more(n.undrawn, w.undrawn),
         expecting: more(n.expecting, w.expecting),
         unmet: more(n.unmet, w.unmet),
-        first: first_of(n.first, n.unmet, w.unmet, number),
-        blocks: sum(n.blocks, w.blocks),
+        first: if w.unmet && n.unmet == 0 {
+            Some(number)
+        } else {
+            n.first
+        },
+        blocks: n.blocks.saturating_add(w.blocks),
     }
 }
 
 // Nothing is counted yet.
+#[tactic(auto, unfolding(crate::specs::Counts::no_tally))]
 pub fn none() -> Tally
     ensures { result ≡ no_tally }
 {
@@ -89,7 +71,7 @@ pub fn none() -> Tally
         undrawn: 0,
         expecting: 0,
         unmet: 0,
-        first: 0,
+        first: None,
         blocks: 0,
     }
 }
