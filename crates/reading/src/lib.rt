@@ -16,13 +16,8 @@ pub fn read_full<R: Read>(input: &mut R, room: &mut [u8]) -> usize
     let mut done = 0;
     while done < room.len() {
         match input.read(&mut room[done..]) {
-            Ok(n) => {
-                if n == 0 {
-                    return done;
-                }
-                done += n;
-            }
-            Err(_) => return done,
+            Ok(0) | Err(_) => return done,
+            Ok(n) => done += n,
         }
     }
     done
