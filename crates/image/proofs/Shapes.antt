@@ -1,5 +1,5 @@
 -- The shape of a state, as the code's types give it, and the widths of its image's pieces.
-use mathlib.Core.Path.{◌≡◌, refl}
+use mathlib.Core.Path.{◌≡◌}
 use mathlib.Core.List.{[], ◌∷◌}
 use Prim.Native.Nat.{◌<◌}
 use lib.ListN.{length}

@@ -1,27 +1,24 @@
 -- What reading and writing an image answer.
-use Rattle.std.specs.Prelude.{Bool, true, List, [], ◌∷◌, ℕ, eqb, leb, length}
+use Rattle.std.specs.Prelude.{Bool, true, List, [], ◌∷◌, ℕ, eqb, leb, length, Result, Ok, Err}
 use Rattle.base.specs.Decide.{pick, and}
 use Rattle.base.specs.Bytes.{byte_at}
 use Rattle.state.specs.declared.Tag.{Tag}
-use Rattle.delivery.specs.Fresh.{blank}
-use Rattle.image.specs.declared.Found.{Found}
-use Rattle.image.specs.declared.Found.TheVariants.{Whole, WrongLength, WrongVersion, NotABoolean}
-use Rattle.image.specs.declared.Read.{Read}
-use Rattle.image.specs.declared.Stored.{Stored}
-use Rattle.image.specs.declared.Stored.TheVariants.{Written, OtherLength}
+use Rattle.image.specs.declared.NoImage.{NoImage}
+use Rattle.image.specs.declared.NoImage.TheVariants.{WrongLength, WrongVersion, NotABoolean}
+use Rattle.image.specs.declared.OtherLength.{OtherLength}
 use Rattle.image.specs.Image.{image_version, image_length, image_of, tag_in}
 
 -- Numbers of the house, those that the C border answers: 0 for a state, 1005 for another length, and 1000 with refusal 3's number
 -- for bytes of the right length that hold none.
-abbrev pub found_number : Found → ℕ
-found_number Whole = 0
-found_number WrongLength = 1005
-found_number WrongVersion = 1003
-found_number NotABoolean = 1003
+abbrev pub found_number : Result Tag NoImage → ℕ
+found_number (Ok t) = 0
+found_number (Err WrongLength) = 1005
+found_number (Err WrongVersion) = 1003
+found_number (Err NotABoolean) = 1003
 
-abbrev pub stored_number : Stored → ℕ
-stored_number Written = 0
-stored_number OtherLength = 1005
+abbrev pub stored_number : Result (Unit {0}) OtherLength → ℕ
+stored_number (Ok u) = 0
+stored_number (Err e) = 1005
 
 -- the bytes at these places are 0 or 1
 unfoldable pub bits_at : List ℕ → List ℕ → Bool
@@ -35,24 +32,16 @@ booleans = 593 ∷ 633 ∷ 634 ∷ 664 ∷ 666 ∷ 667 ∷ []
 unfoldable pub right_length : List ℕ → Bool
 right_length s = eqb (length s) image_length
 
--- the state
-abbrev pub whole : Tag → Read
-whole t = record { found = Whole; tag = t }
-
--- or a refusal by name, with a state beside it whose every byte and number is 0
-abbrev pub refused_as : Found → Read
-refused_as f = record { found = f; tag = blank }
-
--- the refusals in their order
-unfoldable pub read_in : List ℕ → Read
+-- the state, or the refusals in their order
+unfoldable pub read_in : List ℕ → Result Tag NoImage
 read_in s =
     pick (right_length s)
-    (pick (eqb (byte_at s 0) image_version) (pick (bits_at s booleans) (whole (tag_in s)) (refused_as NotABoolean)) (refused_as WrongVersion))
-    (refused_as WrongLength)
+    (pick (eqb (byte_at s 0) image_version) (pick (bits_at s booleans) (Ok (tag_in s)) (Err NotABoolean)) (Err WrongVersion))
+    (Err WrongLength)
 
 -- an image is written over one of its length, and nothing else
-unfoldable pub stored_in : List ℕ → Stored
-stored_in s = pick (right_length s) Written OtherLength
+unfoldable pub stored_in : List ℕ → Result (Unit {0}) OtherLength
+stored_in s = pick (right_length s) (Ok tt) (Err (record {}))
 
 unfoldable pub image_in : Tag → List ℕ → List ℕ
 image_in t s = pick (right_length s) (image_of t) s

@@ -4,30 +4,17 @@
 ghost use Rattle.std.specs.Prelude.{◌≡◌};
 ghost use Rattle.image.specs.Image.{image_length};
 
-use state::Tag;
-
-// What the bytes hold: the image of a state, or why they are none.
-#[derive(Clone, Copy)]
-pub enum Found {
-    Whole,
+// Why bytes hold no state.
+#[derive(Clone, Copy, Debug, PartialEq, Eq)]
+pub enum NoImage {
     WrongLength,
     WrongVersion,
     NotABoolean,
 }
 
-// The state, or a refusal with zeros beside it.
-#[derive(Clone, Copy)]
-pub struct Read {
-    pub found: Found,
-    pub tag: Tag,
-}
-
-// Whether an image was written, or refused for the length of the bytes that were lent.
-#[derive(Clone, Copy)]
-pub enum Stored {
-    Written,
-    OtherLength,
-}
+// The bytes that were lent have not the length of an image.
+#[derive(Clone, Copy, Debug, PartialEq, Eq)]
+pub struct OtherLength;
 
 // How long an image is.
 pub fn image_length() -> usize

@@ -1,37 +1,26 @@
 // The parts of an image, from those of a state.
 ghost use Rattle.std.specs.Prelude.{◌≡◌, [], ◌∷◌, ◌+◌, length};
 ghost use Rattle.base.specs.Bytes.{low};
-ghost use Rattle.image.specs.Image.{image_version, join, flag_byte, file_pieces, secret_pieces, live_pieces, pending_pieces, tap_pieces, image_of};
+ghost use Rattle.image.specs.Image.{image_version, join, file_pieces, secret_pieces, live_pieces, pending_pieces, tap_pieces, image_of};
 
 use state::{Files, Live, Pending, Secrets, Tag, Tapping};
-
-fn flag_byte(b: bool) -> u8
-    ensures { result ≡ flag_byte b }
-{
-    if b { 1 } else { 0 }
-}
 
 fn file_bytes(f: Files) -> [u8; 500]
     ensures { result ≡ join (file_pieces f) }
 {
-    let bytes = f.bytes;
-    let rules = f.rules;
-    let lens = f.lens;
-    let mut s = [0u8; 500];
-    base::put(&bytes, &mut s, 0);
-    base::put(&rules, &mut s, 416);
-    base::put(&lens, &mut s, 497);
+    let mut s = [0; 500];
+    base::put(&f.bytes, &mut s, 0);
+    base::put(&f.rules, &mut s, 416);
+    base::put(&f.lens, &mut s, 497);
     s
 }
 
 fn secret_bytes(k: Secrets) -> [u8; 85]
     ensures { result ≡ join (secret_pieces k) }
 {
-    let keys = k.keys;
-    let versions = k.versions;
-    let mut s = [0u8; 85];
-    base::put(&keys, &mut s, 0);
-    base::put(&versions, &mut s, 80);
+    let mut s = [0; 85];
+    base::put(&k.keys, &mut s, 0);
+    base::put(&k.versions, &mut s, 80);
     s
 }
 
@@ -40,7 +29,6 @@ fn with_counter(p: &[u8], q: &[u8], r: &[u8], ti: &[u8], counter: u16, s: &mut [
     requires { length p.now + (length q.now + (length r.now + (length ti.now + 2))) ≡ length s.old }
     ensures { s.new ≡ join (p.now ∷ q.now ∷ r.now ∷ ti.now ∷ low 2 counter ∷ []) }
 {
-    let number = [(counter % 256) as u8, (counter / 256 % 256) as u8];
     let i = p.len();
     let j = i + q.len();
     let k = j + r.len();
@@ -49,64 +37,40 @@ fn with_counter(p: &[u8], q: &[u8], r: &[u8], ti: &[u8], counter: u16, s: &mut [
     base::put(q, s, i);
     base::put(r, s, j);
     base::put(ti, s, k);
-    base::put(&number, s, l);
+    base::put(&counter.to_le_bytes(), s, l);
 }
 
 fn live_bytes(l: Live) -> [u8; 40]
     ensures { result ≡ join (live_pieces l) }
 {
-    let on = flag_byte(l.on);
-    let head = [on, l.key];
-    let enc = l.enc;
-    let mac = l.mac;
-    let ti = l.ti;
-    let mut s = [0u8; 40];
-    with_counter(&head, &enc, &mac, &ti, l.counter, &mut s);
+    let mut s = [0; 40];
+    with_counter(
+        &[u8::from(l.on), l.key],
+        &l.enc,
+        &l.mac,
+        &l.ti,
+        l.counter,
+        &mut s,
+    );
     s
 }
 
 fn pending_bytes(p: Pending) -> [u8; 31]
     ensures { result ≡ join (pending_pieces p) }
 {
-    let on = flag_byte(p.on);
-    let first = flag_byte(p.first);
-    let head = [on, first, p.key];
-    let rnd_b = p.rnd_b;
-    let cap = p.cap;
-    let ti = p.ti;
-    let mut s = [0u8; 31];
-    with_counter(&head, &rnd_b, &cap, &ti, p.counter, &mut s);
+    let head = [u8::from(p.on), u8::from(p.first), p.key];
+    let mut s = [0; 31];
+    with_counter(&head, &p.rnd_b, &p.cap, &p.ti, p.counter, &mut s);
     s
-}
-
-// Its flags and its counter.
-fn tap_front(t: Tapping) -> [u8; 6]
-    ensures { result ≡ flag_byte t.on ∷ flag_byte t.iso ∷ low 4 t.counter }
-{
-    let on = flag_byte(t.on);
-    let iso = flag_byte(t.iso);
-    let a = t.counter;
-    let b = a / 256;
-    let c = b / 256;
-    let d = c / 256;
-    [
-        on,
-        iso,
-        (a % 256) as u8,
-        (b % 256) as u8,
-        (c % 256) as u8,
-        (d % 256) as u8,
-    ]
 }
 
 fn tap_bytes(t: Tapping) -> [u8; 18]
     ensures { result ≡ join (tap_pieces t) }
 {
-    let front = tap_front(t);
-    let padding = t.padding;
-    let mut s = [0u8; 18];
-    base::put(&front, &mut s, 0);
-    base::put(&padding, &mut s, 6);
+    let mut s = [0; 18];
+    base::put(&[u8::from(t.on), u8::from(t.iso)], &mut s, 0);
+    base::put(&t.counter.to_le_bytes(), &mut s, 2);
+    base::put(&t.padding, &mut s, 6);
     s
 }
 
@@ -141,13 +105,11 @@ pub fn lay_image(t: Tag, s: &mut [u8])
     requires { length s.old ≡ 684 }
     ensures { s.new ≡ image_of t }
 {
-    let application = flag_byte(t.place.application);
-    let place = [application, t.place.file];
-    let uid = t.uid;
+    let place = [u8::from(t.place.application), t.place.file];
     let files = file_bytes(t.files);
     let secrets = secret_bytes(t.secrets);
     let live = live_bytes(t.live);
     let pending = pending_bytes(t.pending);
     let tap = tap_bytes(t.tap);
-    joined(&uid, &files, &secrets, &live, &pending, &place, &tap, s);
+    joined(&t.uid, &files, &secrets, &live, &pending, &place, &tap, s);
 }

@@ -6,6 +6,7 @@ use native.Mathlib.Omega.{arith}
 use lib.ListN.{length}
 use Rattle.base.specs.Bytes.{laid, low}
 use Rattle.image.proofs.Pieces.{lengths, laid_all}
+use Rattle.storing.proofs.Little.{little_2}
 use Rattle.storing.proofs.parts.with_counter.Goals as goal
 
 pub returns : goal.returns
@@ -22,6 +23,7 @@ returns c =
     (laid a.r.now (m + length a.q.now) (laid a.q.now m (laid a.p.now 0 a.s.now)))) in
     let z : i ≡ 0 + i = omega arith in
     (c.put-5.ensures
+    ∙ ap (λ x. laid x l c.put-4.new.dst) (c.to_le_bytes.ensures ∙ little_2 a.counter)
     ∙ ap (λ x. laid (low 2 a.counter) l x) (c.put-4.ensures
     ∙ ap (λ x. laid a.ti.now k x) (c.put-3.ensures
     ∙ ap (λ x. laid a.r.now j x) (c.put-2.ensures
