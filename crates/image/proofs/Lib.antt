@@ -1,3 +1,2 @@
 pub mod Pieces
 pub mod Shapes
-pub mod Answering

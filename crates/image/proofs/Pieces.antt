@@ -111,26 +111,7 @@ bytes-from-tab s i n h =
     at : (j : ℕ) → j < n → byte_at (bytes_from s i n) j ≡ byte_at (tab n (λ j. byte_at s (i + j))) j
     at j k = bytes-from_one s i n j k ∙ sym (tab_at 0 n (λ j. byte_at s (i + j)) j k)
 
--- laid over an array of its length
-pub bytes-from-laid : (s : List ℕ) (i n : ℕ) (b : List ℕ) → i + n ≤ length s → length b ≡ n → laid (bytes_from s i n) 0 b ≡ bytes_from s i n
-bytes-from-laid s i n b h e = laid-whole (bytes_from s i n) b (bytes-from-length s i n h ∙ sym e)
-
 -- the bytes of the number that they stand for
 pub bytes-from-low : (s : List ℕ) (i n : ℕ) → AllBytes s → i + n ≤ length s → low n (number (bytes_from s i n)) ≡ bytes_from s i n
 bytes-from-low s i n a h =
     subst (λ m. low m (number (bytes_from s i n)) ≡ bytes_from s i n) (bytes-from-length s i n h) (low-number (bytes_from s i n) (bytes-from-bytes s i n a))
-
--- a number from its bytes
-pub number_two : (s : List ℕ) (i a b : ℕ) → i + 2 ≤ length s → a ≡ byte_at s i → b ≡ byte_at s (i + 1)
-    → a + 256 * b ≡ number (bytes_from s i 2)
-unfolding number
-number_two s i a b h p q =
-    let z : byte_at s (i + 0) ≡ byte_at s i = ap (λ k. byte_at s k) (omega arith) in
-    omega arith ∙ sym (ap number (bytes-from-tab s i 2 h))
-
-pub number_four : (s : List ℕ) (i a b c d : ℕ) → i + 4 ≤ length s → a ≡ byte_at s i → b ≡ byte_at s (i + 1) → c ≡ byte_at s (i + 2)
-    → d ≡ byte_at s (i + 3) → a + 256 * (b + 256 * (c + 256 * d)) ≡ number (bytes_from s i 4)
-unfolding number
-number_four s i a b c d h p q r t =
-    let z : byte_at s (i + 0) ≡ byte_at s i = ap (λ k. byte_at s k) (omega arith) in
-    omega arith ∙ sym (ap number (bytes-from-tab s i 4 h))

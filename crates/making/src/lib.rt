@@ -3,23 +3,21 @@
 
 ghost use Rattle.making.specs.Making.{Makes};
 
-use delivery::Made;
+use delivery::WrongUid;
 
 // The image of a fresh tag with a UID.
+#[tactic(auto, unfolding(delivery::specs::Fresh::made_number, image::specs::Answers::right_length, image::specs::Answers::stored_in, image::specs::Answers::image_in, crate::specs::Making::making_number))]
 pub fn make(uid: &[u8], state: &mut [u8]) -> usize
     ensures { Makes uid.now state.old result state.new }
 {
     if state.len() != 684 {
         return 1005;
     }
-    let b = delivery::fresh(uid);
-    let made = b.made;
-    match made {
-        Made::Fresh => {
-            let t = b.tag;
-            storing::to_image(t, state);
+    match delivery::fresh(uid) {
+        Ok(tag) => {
+            storing::to_image(tag, state).unwrap();
             0
         }
-        Made::WrongUid => 1004,
+        Err(WrongUid) => 1004,
     }
 }

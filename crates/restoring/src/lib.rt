@@ -7,28 +7,26 @@ ghost use Rattle.base.specs.Bytes.{byte_at};
 ghost use Rattle.image.specs.Image.{image_version};
 ghost use Rattle.image.specs.Answers.{found_number, bits_at, booleans, right_length, read_in};
 
-use image::{Found, Read};
+use image::NoImage;
+use state::Tag;
 
 mod parts;
 
 // The state that an image holds. Whether it is sound, `soundness::sound` judges.
-pub fn from_image(s: &[u8]) -> Read
+#[tactic(auto, unfolding(image::specs::Answers::read_in, image::specs::Answers::right_length))]
+pub fn from_image(s: &[u8]) -> Result<Tag, NoImage>
     ensures told { result ≡ read_in s.now }
-    ensures number { found_number result.found
+    ensures number { found_number result
         ≡ pick (right_length s.now) (pick (and (eqb (byte_at s.now 0) image_version) (bits_at s.now booleans)) 0 1003) 1005 }
 {
     if s.len() != 684 {
-        return parts::refused(Found::WrongLength);
+        return Err(NoImage::WrongLength);
     }
-    if base::at(s, 0) != 2 {
-        return parts::refused(Found::WrongVersion);
+    if s[0] != 2 {
+        return Err(NoImage::WrongVersion);
     }
-    if parts::bits_right(s) {
-        let tag = parts::tag_in(s);
-        return Read {
-            found: Found::Whole,
-            tag,
-        };
+    if !parts::bits_right(s) {
+        return Err(NoImage::NotABoolean);
     }
-    parts::refused(Found::NotABoolean)
+    Ok(parts::tag_in(s))
 }
