@@ -1,7 +1,7 @@
 // Bytes of any length up to N, in fixed memory.
 #![tactic(auto)]
 
-ghost use Rattle.std.specs.Prelude.{[], ◌≡◌, take, replicate};
+ghost use Rattle.std.specs.Prelude.{[], ◌≡◌, length, min, take, replicate};
 ghost use Rattle.base.specs.Bytes.{over};
 ghost use Rattle.buffers.specs.Text.{text_of};
 
@@ -25,6 +25,7 @@ impl<const N: usize> Buffer<N> {
     // The first N bytes of a text, and zeros behind it.
     pub fn of(text: &[u8]) -> Buffer<N>
         ensures text { text_of result ≡ take N text.now }
+        ensures length { result.length ≡ min (length text.now) N }
         ensures zeros { result.bytes ≡ over (take N text.now) (replicate N 0) }
     {
         let length = text.len().min(N);
