@@ -13,15 +13,15 @@ use Rattle.base.proofs.Bytes.{Holds, front, le_or_lt}
 use Rattle.cbc.specs.Cbc.{Chains, cbc_out, cbc_cost}
 use Rattle.key_expansion.specs.Keys.{key_expansion}
 use Rattle.cbc.specs.declared.Chain.{Chain}
-use Rattle.padding.specs.Padding.{padded, padded_length, padded_in, Pads}
+use Rattle.padding.specs.Padding.{padded, padded_length, padding, padded_in, Pads}
 use Rattle.messaging.specs.Protect.{message_mac, message_mac_cost, sent, signed, reply_vector, reply_iv, part_cost, signed_cost, vector_cost}
 use Rattle.messaging.proofs.Costs.{part_few, signed_few}
-use Rattle.closing.specs.Reply.{filled, closed, hidden_length, closed_length, overlong, closed_cost, closed_for, closing, closing_cost, closed_in, Seals, Closes}
+use Rattle.closing.specs.Reply.{filled, closed, hidden_length, closed_length, overlong, closed_cost, closed_reply, closing, closing_cost, closed_in, Seals, Closes}
 use Rattle.messaging.specs.declared.Session.{Session}
 use Rattle.messaging.specs.declared.Mode.{Mode}
 use Rattle.messaging.specs.declared.Mode.TheVariants.{Plain, Mac, Full}
-use Rattle.closing.specs.declared.Closed.TheVariants.{Reply, Over, Small}
-use Rattle.padding.specs.declared.Padded.{Padded}
+use Rattle.closing.specs.declared.NotClosed.TheVariants.{TooLong, NoRoom}
+use Rattle.std.proofs.Common.{Option, Some, Ok, Err}
 use Rattle.base.proofs.Pieces.{over-over}
 use Rattle.cbc.proofs.Turns.{chains_whole}
 use Rattle.padding.proofs.Unpadding.{padded-length}
@@ -55,7 +55,7 @@ pub seals_none : (s : Session) (v old d : List ℕ) (n : ℕ) → n ≡ 0 → Se
 unfolding sent hidden_length
 seals_none s v old d n e = rw e (record { count = refl; len = refl; room = refl })
 
-padded_in_lem : (n : ℕ) (old new : List ℕ) (r : Padded) → n / 16 * 16 + 16 ≤ length old → Pads n old r new
+padded_in_lem : (n : ℕ) (old new : List ℕ) (r : Option ℕ) → n / 16 * 16 + 16 ≤ length old → Pads n old r new
     → Holds (padded (take n old)) old new (n / 16 * 16 + 16)
 unfolding padded_in padded_length
 padded_in_lem n old new r f h =
@@ -64,16 +64,19 @@ padded_in_lem n old new r f h =
       len = sym (padded-length (take n old) ∙ ap (λ k. k / 16 * 16 + 16) (length-take-le n old (omega arith)));
     }
 
+pub pads_to : {n : ℕ} {old new : List ℕ} {r : Option ℕ} → Pads n old r new → 1 ≤ n → hidden_length n ≤ length old → r ≡ Some (n / 16 * 16 + 16)
+unfolding padding padded_length
+pads_to {n} {old} h f g = h.told ∙ rw (le-leb (n / 16 * 16 + 16) (length old) (omega (arith, hidden_some n f))) refl
+
 -- the bytes at the front of a room, padded, then encrypted in place
-pub seals_some : (s : Session) (iv old mid new : List ℕ) (w : List (List ℕ)) (n : ℕ) (r : Padded) (q : Chain) → 1 ≤ n
-    → n / 16 * 16 + 16 ≤ length old → Pads n old r mid → w ≡ key_expansion s.enc → iv ≡ reply_iv s
-    → Chains (cbc_out w iv) (take (n / 16 * 16 + 16) mid) q new → length new ≡ n / 16 * 16 + 16
-    → Seals (sent Full s (reply_iv s) (filled n) (take n old)) (hidden_length n) old (n / 16 * 16 + 16) (new ++ drop (n / 16 * 16 + 16) mid)
+pub seals_some : (s : Session) (iv old mid new : List ℕ) (w : List (List ℕ)) (n e : ℕ) (r : Option ℕ) (q : Chain) → 1 ≤ n
+    → n / 16 * 16 + 16 ≤ length old → Pads n old r mid → w ≡ key_expansion s.enc → iv ≡ reply_iv s → e ≡ n / 16 * 16 + 16
+    → Chains (cbc_out w iv) (take e mid) q new → length new ≡ e
+    → Seals (sent Full s (reply_iv s) (filled n) (take n old)) (hidden_length n) old e (new ++ drop e mid)
 unfolding sent
-seals_some s iv old mid new w n r q g f p a b c l =
-    let e = n / 16 * 16 + 16 in
+seals_some s iv old mid new w n e r q g f p a b u c l =
     let d = padded (take n old) in
-    let h : Holds d old mid e = padded_in_lem n old mid r f p in
+    let h : Holds d old mid e = rw u (padded_in_lem n old mid r f p) in
     let i : take e mid ≡ d = front h in
     let j : length (take e mid) ≡ e = ap length i ∙ sym h.len in
     let k : new ≡ cbc_out (key_expansion s.enc) (reply_iv s) d =
@@ -81,8 +84,8 @@ seals_some s iv old mid new w n r q g f p a b c l =
     let o : drop e mid ≡ drop e old = ap (drop e) h.is ∙ drop_at d (drop (length d) old) e (sym h.len) ∙ ap (λ y. drop y old) (sym h.len) in
     rw (le-leb 1 n g)
     (record {
-      count = sym (hidden_some n g);
-      len = hidden_some n g ∙ sym l ∙ ap length k;
+      count = u ∙ sym (hidden_some n g);
+      len = hidden_some n g ∙ sym u ∙ sym l ∙ ap length k;
       room = ap₂ (λ x y. x ++ y) k o ∙ ap (λ y. cbc_out (key_expansion s.enc) (reply_iv s) d ++ drop y old) (sym l ∙ ap length k);
     })
 
@@ -103,22 +106,22 @@ seals_signed g p old mid new k e r h f =
 
 -- ---- the whole
 module _ (s : Session) (m : Mode) (code n : ℕ) (old : List ℕ) where
-  pub closes_over : overlong m n ≡ true → Closes s m code n old (closed_for Over 0) old
+  pub closes_over : overlong m n ≡ true → Closes s m code n old (Err TooLong) old
   unfolding closing closed_in closing_cost
   closes_over e = record { answer = rw e refl; cost = rw e refl; room = rw e refl }
 
-  pub closes_small : overlong m n ≡ false → length old < closed_length m n → Closes s m code n old (closed_for Small 0) old
+  pub closes_small : overlong m n ≡ false → length old < closed_length m n → Closes s m code n old (Err NoRoom) old
   unfolding closing closed_in closing_cost
   closes_small e f =
       let g = lt-ltb (length old) (closed_length m n) f in
       record { answer = rw (e, g) refl; cost = rw (e, g) refl; room = rw (e, g) refl }
 
   pub closes : (r k : ℕ) (new : List ℕ) → overlong m n ≡ false → closed_length m n ≤ length old
-      → Seals (closed s m code (take n old)) (closed_length m n) old r new → k ≡ closed_cost m n → Closes s m code n old (closed_for (Reply r) k) new
+      → Seals (closed s m code (take n old)) (closed_length m n) old r new → k ≡ closed_cost m n → Closes s m code n old (Ok (closed_reply r k)) new
   unfolding closing closed_in closing_cost
   closes r k new e f h c =
       let g = le-ltb (length old) (closed_length m n) f in
-      record { answer = rw (e, g) (ap Reply h.count); cost = rw (e, g) c; room = rw (e, g) h.room }
+      record { answer = rw (e, g) (ap₂ (λ x y. Ok (closed_reply x y)) h.count c); cost = rw (e, g) c; room = rw (e, g) h.room }
 
 -- what is closed, in each mode
 pub closed-plain : (s : Session) (code : ℕ) (d : List ℕ) → closed s Plain code d ≡ d

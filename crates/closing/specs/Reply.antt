@@ -1,5 +1,5 @@
 -- 9.1.8 to 9.1.10: a reply, as the tag closes it and as the other side opens it. CmdCtr is the one already raised.
-use Rattle.std.specs.Prelude.{Bool, true, List, ◌≡◌, ℕ, ◌+◌, ◌-◌, ◌%◌, eqb, leb, ltb, length, take, drop}
+use Rattle.std.specs.Prelude.{Bool, true, List, Result, Ok, Err, ◌≡◌, ℕ, ◌+◌, ◌-◌, ◌%◌, eqb, leb, ltb, length, take, drop}
 use Rattle.base.specs.Decide.{pick, and}
 use Rattle.base.specs.Bytes.{over}
 use Rattle.base.specs.Status.{operation_ok, length_error}
@@ -9,8 +9,8 @@ use Rattle.messaging.specs.declared.Session.{Session}
 use Rattle.messaging.specs.declared.Mode.{Mode}
 use Rattle.messaging.specs.declared.Mode.TheVariants.{Plain, Mac, Full}
 use Rattle.closing.specs.declared.Closed.{Closed}
-use Rattle.closing.specs.declared.ClosedFor.{ClosedFor}
-use Rattle.closing.specs.declared.Closed.TheVariants.{Reply, Over, Small}
+use Rattle.closing.specs.declared.NotClosed.{NotClosed}
+use Rattle.closing.specs.declared.NotClosed.TheVariants.{TooLong, NoRoom}
 
 -- an empty data part isn't encrypted
 abbrev pub filled : ℕ → Bool
@@ -36,16 +36,20 @@ closed_cost m n =
     let k = closed_length m n - mac_length m in
     part_cost m (filled n) k + signed_cost m k
 
-abbrev pub closed_for : Closed → ℕ → ClosedFor
-closed_for c n = record { closed = c; cost = n }
+-- a closed reply of k bytes, for n blocks
+abbrev pub closed_reply : ℕ → ℕ → Closed
+closed_reply k n = record { length = k; cost = n }
 
 -- 01 (house): a reply over 256 bytes with its MAC
 unfoldable pub overlong : Mode → ℕ → Bool
 overlong m n = ltb 256 (closed_length m n)
 
 -- the n bytes at the front of a room, closed there: over 256 bytes with the MAC, or a room that is too small, is refused
-unfoldable pub closing : Mode → ℕ → List ℕ → Closed
-closing m n old = pick (overlong m n) Over (pick (ltb (length old) (closed_length m n)) Small (Reply (closed_length m n)))
+unfoldable pub closing : Mode → ℕ → List ℕ → Result Closed NotClosed
+closing m n old =
+    pick (overlong m n) (Err TooLong)
+    (pick (ltb (length old) (closed_length m n)) (Err NoRoom)
+    (Ok (closed_reply (closed_length m n) (closed_cost m n))))
 
 unfoldable pub closed_in : Session → Mode → ℕ → ℕ → List ℕ → List ℕ
 closed_in s m code n old =
@@ -61,17 +65,22 @@ pub record Seals (p : List ℕ) (k : ℕ) (old : List ℕ) (r : ℕ) (new : List
   pub len : k ≡ length p
   pub room : new ≡ over p old
 
-pub record Closes (s : Session) (m : Mode) (code n : ℕ) (old : List ℕ) (r : ClosedFor) (new : List ℕ) : Type 0 where
-  pub answer : r.closed ≡ closing m n old
-  pub cost : r.cost ≡ closing_cost m n old
+-- how many blocks were computed
+abbrev pub blocks_for : Result Closed NotClosed → ℕ
+blocks_for (Ok c) = c.cost
+blocks_for (Err e) = 0
+
+pub record Closes (s : Session) (m : Mode) (code n : ℕ) (old : List ℕ) (r : Result Closed NotClosed) (new : List ℕ) : Type 0 where
+  pub answer : r ≡ closing m n old
+  pub cost : blocks_for r ≡ closing_cost m n old
   pub room : new ≡ closed_in s m code n old
 
 -- 01's status for each answer; a room that is too small is refused before any status (01's refusal 1) and has the house's
 -- number 1 (proofs/Answers.antt: closes-status)
-unfoldable pub closed_status : Closed → ℕ
-closed_status (Reply n) = operation_ok
-closed_status Over = length_error
-closed_status Small = 1
+unfoldable pub closed_status : Result Closed NotClosed → ℕ
+closed_status (Ok c) = operation_ok
+closed_status (Err TooLong) = length_error
+closed_status (Err NoRoom) = 1
 
 -- a length that a reply of the mode can have
 unfoldable pub reply_right : Mode → ℕ → Bool

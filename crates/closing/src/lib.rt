@@ -5,20 +5,18 @@ mod reply;
 
 pub use reply::{close, too_long};
 
-// What closing a reply came to, and how many blocks were computed.
-#[derive(Clone, Copy)]
-pub struct ClosedFor {
-    pub closed: Closed,
+// A reply that stands closed at the front of a room: how many bytes it has, and how many blocks were computed for it.
+#[derive(Clone, Copy, Debug, PartialEq, Eq)]
+pub struct Closed {
+    pub length: usize,
     pub cost: usize,
 }
 
-// What it came to.
-#[derive(Clone, Copy)]
-pub enum Closed {
-    // The reply stands at the front of the room, this many bytes.
-    Reply(usize),
+// Why a reply is not closed. No block is computed then.
+#[derive(Clone, Copy, Debug, PartialEq, Eq)]
+pub enum NotClosed {
     // 917E: over 256 bytes with its MAC.
-    Over,
+    TooLong,
     // The room is too small.
-    Small,
+    NoRoom,
 }

@@ -1,4 +1,4 @@
--- `closing::reply::close` meets its contract, mode by mode.
+-- Mode by mode.
 use mathlib.Core.Path.{◌≡◌, sym, subst, ap, ◌∙◌}
 use Prim.Native.Nat.{◌+◌, ◌≤◌}
 use native.Mathlib.Omega.{arith}
@@ -11,14 +11,12 @@ use Rattle.messaging.proofs.Costs.{mac_few, part_few}
 use Rattle.closing.specs.Reply.{filled, closed_length, closed_cost, hidden_length, Seals, closed}
 use Rattle.closing.proofs.Closing.{closes_over, closes_small, closes, closed_long, short, seals, seals_signed, closed-plain, closed-mac, closed_full, cost-plain, cost-mac, cost_full}
 use borrow.Author.Rules.{rules}
-use borrow.Author.Rules.{rules}
 use Rattle.closing.proofs.reply.close.Goals as goal
 
 pub returns-then-too_long : goal.returns-then-too_long
 returns-then-too_long c =
     let a = c.args in
-    rw c.closed_for.ensures
-    (closes_over a.s a.m a.code a.n a.room.now (sym c.too_long.ensures ∙ c.if-too_long.true))
+    closes_over a.s a.m a.code a.n a.room.now (sym c.too_long.ensures ∙ c.if-too_long.true)
 
 pub closed_length-requires : goal.closed_length-requires
 closed_length-requires c = let a = c.args in omega (arith, closed_long a.m a.n, short a.m a.n (sym c.too_long.ensures ∙ c.if-too_long.false))
@@ -26,13 +24,11 @@ closed_length-requires c = let a = c.args in omega (arith, closed_long a.m a.n, 
 pub returns-then-room-closed_length : goal.returns-then-room-closed_length
 returns-then-room-closed_length c =
     let a = c.args in
-    rw c.closed_for-then-room-closed_length.ensures
-    (closes_small a.s a.m a.code a.n a.room.now
-    (sym c.too_long.ensures ∙ c.if-too_long.false) (omega (arith, c.closed_length.ensures)))
+    closes_small a.s a.m a.code a.n a.room.now (sym c.too_long.ensures ∙ c.if-too_long.false) (omega (arith, c.closed_length.ensures))
 
-pub sign-t-requires : goal.sign-t-requires
+pub sign-requires : goal.sign-requires
 unfolding closed_length
-sign-t-requires c =
+sign-requires c =
     let a = c.args in
     let f : a.n + 8 ≤ length a.room.now = subst (λ m. closed_length m a.n ≤ length a.room.now) c.in-Mac.is
     (omega (arith, c.closed_length.ensures)) in
@@ -40,34 +36,34 @@ sign-t-requires c =
     (short a.m a.n (sym c.too_long.ensures ∙ c.if-too_long.false)) in
     (f, omega arith)
 
-pub hide-e-requires : goal.hide-e-requires
+pub hide-hidden-requires : goal.hide-hidden-requires
 unfolding closed_length
-hide-e-requires c =
+hide-hidden-requires c =
     let a = c.args in
     let f : hidden_length a.n + 8 ≤ length a.room.now = subst (λ m. closed_length m a.n ≤ length a.room.now) c.in-Full.is
     (omega (arith, c.closed_length.ensures)) in
     omega arith
 
-pub sign-t-requires-in-Full : goal.sign-t-requires-in-Full
+pub sign-signed-requires : goal.sign-signed-requires
 unfolding closed_length
-sign-t-requires-in-Full c =
+sign-signed-requires c =
     let a = c.args in
     let f : hidden_length a.n + 8 ≤ length a.room.now = subst (λ m. closed_length m a.n ≤ length a.room.now) c.in-Full.is
     (omega (arith, c.closed_length.ensures)) in
     let g : hidden_length a.n + 8 ≤ 256 = subst (λ m. closed_length m a.n ≤ 256) c.in-Full.is
     (short a.m a.n (sym c.too_long.ensures
     ∙ c.if-too_long.false)) in
-    let l : length c.hide-e.new.room ≡ length a.room.now = search rules in
-    (omega (arith, c.hide-e.ensures.bytes.count), omega (arith, c.hide-e.ensures.bytes.count))
+    let l : length c.hide-hidden.new.room ≡ length a.room.now = search rules in
+    (omega (arith, c.hide-hidden.ensures.bytes.count), omega (arith, c.hide-hidden.ensures.bytes.count))
 
-pub overflow_add-e : goal.overflow_add-e
+pub overflow_add-result : goal.overflow_add-result
 unfolding closed_length
-overflow_add-e c =
+overflow_add-result c =
     let a = c.args in
-    let h = c.hide-e.ensures in
+    let h = c.hide-hidden.ensures in
     let g : hidden_length a.n + 8 ≤ 256 = subst (λ m. closed_length m a.n ≤ 256) c.in-Full.is
     (short a.m a.n (sym c.too_long.ensures ∙ c.if-too_long.false)) in
-    omega (arith, h.bytes.count, h.cost, part_few Full (filled a.n) (hidden_length a.n), c.sign-t-in-Full.ensures.cost, mac_few c.hide-e.result.length)
+    omega (arith, h.bytes.count, h.cost, part_few Full (filled a.n) (hidden_length a.n), c.sign-signed.ensures.cost, mac_few c.hide-hidden.result.length)
 
 pub returns-in-Plain : goal.returns-in-Plain
 unfolding closed_length
@@ -76,7 +72,7 @@ returns-in-Plain c =
     let d = take a.n a.room.now in
     let e = sym c.in-Plain.is in
     let f : closed_length a.m a.n ≤ length a.room.now = omega (arith, c.closed_length.ensures) in
-    rw c.closed_for-in-Plain.ensures (closes a.s a.m a.code a.n a.room.now a.n 0 a.room.now (sym c.too_long.ensures ∙ c.if-too_long.false) f
+    (closes a.s a.m a.code a.n a.room.now a.n 0 a.room.now (sym c.too_long.ensures ∙ c.if-too_long.false) f
     (subst (λ m. Seals (closed a.s m a.code d) (closed_length m a.n) a.room.now a.n a.room.now) e
     (rw (closed-plain a.s a.code d) (seals (fronted a.n a.room.now (omega (arith, closed_long a.m a.n))))))
     (subst (λ m. 0 ≡ closed_cost m a.n) e (cost-plain a.n)))
@@ -87,10 +83,9 @@ returns-in-Mac c =
     let a = c.args in
     let d = take a.n a.room.now in
     let e = sym c.in-Mac.is in
-    let t = c.sign-t in
+    let t = c.sign in
     let new = t.new.room in
     let f : closed_length a.m a.n ≤ length a.room.now = omega (arith, c.closed_length.ensures) in
-    rw c.closed_for-in-Mac.ensures
     (closes a.s a.m a.code a.n a.room.now t.result.length t.result.cost new
     (sym c.too_long.ensures ∙ c.if-too_long.false) f
     (subst (λ m. Seals (closed a.s m a.code d) (closed_length m a.n) a.room.now t.result.length new) e
@@ -104,14 +99,14 @@ returns-in-Full c =
     let d = take a.n a.room.now in
     let p = sent Full a.s (reply_iv a.s) (filled a.n) d in
     let e = sym c.in-Full.is in
-    let h = c.hide-e in
-    let t = c.sign-t-in-Full in
+    let h = c.hide-hidden in
+    let t = c.sign-signed in
     let new = t.new.room in
     let r = t.result.length in
     let k = h.result.cost + t.result.cost in
     let f : closed_length a.m a.n ≤ length a.room.now = omega (arith, c.closed_length.ensures, c.if-room-closed_length.false) in
     let l : length d ≡ a.n = length-take-le a.n a.room.now (omega (arith, closed_long a.m a.n)) in
-    rw c.closed_for-in-Full.ensures (closes a.s a.m a.code a.n a.room.now r k new
+    (closes a.s a.m a.code a.n a.room.now r k new
     (sym c.too_long.ensures ∙ c.if-too_long.false) f
     (subst (λ m. Seals (closed a.s m a.code d) (closed_length m a.n) a.room.now r new) e
     (rw (closed_full a.s a.code a.n d l)
