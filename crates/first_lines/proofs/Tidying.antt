@@ -6,12 +6,15 @@ use mathlib.Core.Logic.{⊎_elim}
 use Prim.Native.Nat.{ℕ, ◌+◌, ◌/◌, ◌≤◌, ◌<◌}
 use native.Mathlib.Numerals.{add-one}
 use native.Mathlib.Omega.{arith}
-use lib.ListN.{length, get_or, take, drop, length-take, take-append-drop}
+use lib.ListN.{length, get_or, take, drop, length-take, take-append-drop, drop_of_length-le}
 use lib.Seq.{take-suc, take_all, take-append_seam, length-take-le}
-use borrow.Author.Tests.{ne_eqb}
+use lib.Dec.{eqb}
+use borrow.Author.Tests.{ne_eqb, eq-eqb, eqb-true}
+use Rattle.lines.specs.Hex.{bytes_of}
+use Rattle.lines.proofs.Steps.{bytes_half}
 use Rattle.base.specs.Decide.{pick}
 use Rattle.base.specs.Bytes.{over}
-use Rattle.base.proofs.Bytes.{Holds, le_or_lt}
+use Rattle.base.proofs.Bytes.{Holds, le_or_lt, and_left, and_right}
 use Rattle.first_lines.specs.Said.{is_blank, capital_of, tidied, good_bytes, bytes_room}
 
 tidied-append : (a b : List ℕ) → tidied (a ++ b) ≡ tidied a ++ tidied b
@@ -75,6 +78,15 @@ cut_good n k = cut (good_bytes n) false (long_good n k)
 
 pub cut_bytes : (room : List ℕ) → length room ≤ 20 → (s : List ℕ) → bytes_room (take 1700 s) room ≡ bytes_room s room
 cut_bytes room k = cut (λ s. bytes_room s room) room (long_bytes room k)
+
+-- bytes that fill the room are all it holds
+pub whole : (s room : List ℕ) → length room ≡ 7 → good_bytes 7 s ≡ true → bytes_room s room ≡ bytes_of s
+unfolding bytes_room good_bytes
+whole s room e g =
+    let n : length s / 2 ≡ 7 = eqb-true (length s / 2) 7 (and_left _ _ g) in
+    let h = and_right (eqb (length s / 2) 7) _ g in
+    let l : length (bytes_of s) ≡ length room = bytes_half s h ∙ n ∙ sym e in
+    rw (eq-eqb (length s / 2) (length room) (n ∙ sym e), h) (ap (λ r. bytes_of s ++ r) (drop_of_length-le room {i = length (bytes_of s)} (omega arith)) ∙ append-nil (bytes_of s))
 
 -- the part of the room that was filled is the tidied line, cut
 pub seen : (l old : List ℕ) {q : List ℕ} {n : ℕ} → length old ≡ 1700 → n ≡ length (take (length old) (tidied l))

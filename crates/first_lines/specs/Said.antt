@@ -1,5 +1,5 @@
 -- What a line of a plan says: the characters that count, and whether they are so many bytes.
-use Rattle.std.specs.Prelude.{Bool, List, [], ◌∷◌, ℕ, ◌-◌, ◌/◌, eqb, leb, length, take}
+use Rattle.std.specs.Prelude.{Bool, Option, None, Some, List, [], ◌∷◌, ℕ, ◌-◌, ◌/◌, eqb, leb, length, take}
 use Rattle.base.specs.Decide.{pick, and, or}
 use Rattle.base.specs.Bytes.{over}
 use Rattle.lines.specs.Lines.{seek}
@@ -28,3 +28,7 @@ good_bytes n s = and (eqb (length s / 2) n) (is_hex s)
 
 unfoldable pub bytes_room : List ℕ → List ℕ → List ℕ
 bytes_room s room = pick (good_bytes (length room) s) (over (bytes_of s) room) room
+
+-- the UID that a line says, 7 bytes
+unfoldable pub uid_in : List ℕ → Option (List ℕ)
+uid_in line = pick (good_bytes 7 (said line)) (Some (bytes_of (said line))) None

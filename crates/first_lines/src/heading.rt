@@ -6,33 +6,27 @@ use crate::FirstLine;
 use crate::parts::is_blank;
 
 // How many bytes a byte order mark, EF BB BF, takes at the front.
+#[tactic(auto, unfolding(crate::specs::Begins::mark_in))]
 fn mark(text: &[u8]) -> usize
     ensures { result ≡ mark_in text.now }
 {
-    if base::at(text, 0) == 0xEF {
-        if base::at(text, 1) == 0xBB {
-            if base::at(text, 2) == 0xBF {
-                return 3;
-            }
-        }
+    match text {
+        [0xEF, 0xBB, 0xBF, ..] => 3,
+        _ => 0,
     }
-    0
 }
 
 // Whether nothing that counts stands on a line before its end or its '#'.
 fn silent(line: &[u8]) -> bool
     ensures { result ≡ silent_in line.now }
 {
-    let mut i = 0;
-    while i < line.len() {
-        if line[i] == b'#' {
+    for &c in line {
+        if c == b'#' {
             return true;
         }
-        if is_blank(line[i]) {
-            i += 1;
-            continue;
+        if !is_blank(c) {
+            return false;
         }
-        return false;
     }
     true
 }
@@ -45,16 +39,15 @@ pub fn first_line(text: &[u8]) -> FirstLine
     let mut number: u64 = 1;
     while at < text.len() {
         let end = lines::find(text, at, b'\n');
-        if silent(&text[at..end]) {
-            number += 1;
-            at = end + 1;
-            continue;
+        if !silent(&text[at..end]) {
+            return FirstLine {
+                start: at,
+                end,
+                number,
+            };
         }
-        return FirstLine {
-            start: at,
-            end,
-            number,
-        };
+        number += 1;
+        at = end + 1;
     }
     FirstLine {
         start: text.len(),

@@ -3,7 +3,7 @@
 #![tactic(auto)]
 
 ghost use Rattle.std.specs.Prelude.{◌≡◌};
-ghost use Rattle.first_lines.specs.Said.{said, good_bytes, bytes_room};
+ghost use Rattle.first_lines.specs.Said.{uid_in};
 
 mod heading;
 mod parts;
@@ -12,20 +12,24 @@ pub use heading::first_line;
 pub use parts::{bytes_given, tidy};
 
 // The first line of a plan that is not blank: its first character, its end and its number.
-#[derive(Clone, Copy)]
+#[derive(Clone, Copy, Debug, PartialEq, Eq)]
 pub struct FirstLine {
     pub start: usize,
     pub end: usize,
     pub number: u64,
 }
 
-// Whether a line is a UID of 7 bytes; they are then in the room.
-pub fn line_uid(line: &[u8], room: &mut [u8; 7]) -> bool
-    ensures answer { result ≡ good_bytes 7 (said line.now) }
-    ensures left { room.new ≡ bytes_room (said line.now) room.old }
+// The UID of 7 bytes that a line says.
+pub fn line_uid(line: &[u8]) -> Option<[u8; 7]>
+    ensures { result ≡ uid_in line.now }
 {
     let mut q = [0u8; 1700];
+    let mut uid = [0u8; 7];
     let e = lines::find(line, 0, b'#');
     let n = parts::tidy(&line[..e], &mut q);
-    parts::bytes_given(&q[..n], room)
+    if parts::bytes_given(&q[..n], &mut uid) {
+        Some(uid)
+    } else {
+        None
+    }
 }

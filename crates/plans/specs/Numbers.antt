@@ -1,17 +1,15 @@
 -- Numbers of this house for the cases of its own answers, and what a line means, by number and in full.
-use Rattle.std.specs.Prelude.{List, ◌≡◌, ℕ, ◌+◌, eqb, leb, ltb, length}
+use Rattle.std.specs.Prelude.{Result, Ok, Err, List, ◌≡◌, ℕ, ◌+◌, eqb, leb, ltb, length}
 use Rattle.base.specs.Decide.{pick}
 use Rattle.lines.specs.Hex.{decoded}
-use Rattle.lines.specs.declared.Decoded.{Decoded}
-use Rattle.lines.specs.declared.Decoded.TheVariants.{Bytes, NotHex, RoomTooSmall}
+use Rattle.lines.specs.declared.DecodeError.{DecodeError}
+use Rattle.lines.specs.declared.DecodeError.TheVariants.{NotHex, RoomTooSmall}
 use Rattle.first_lines.specs.Said.{said, good_bytes}
 use Rattle.plans.specs.declared.Line.{Line}
 use Rattle.plans.specs.declared.Reason.{Reason}
 use Rattle.plans.specs.declared.Reason.TheVariants.{NoCommand, Stray, OddDigits, TooLong, BadRandom, BadExpected}
 use Rattle.plans.specs.declared.Meaning.{Meaning}
-use Rattle.plans.specs.declared.Meaning.TheVariants.{Blank, Drawn, Given, Bad}
-use Rattle.plans.specs.declared.parts.Digits.{Digits}
-use Rattle.plans.specs.declared.parts.Digits.TheVariants.{Fine, Wrong}
+use Rattle.plans.specs.declared.Meaning.TheVariants.{Blank, Drawn, Given}
 use Rattle.plans.specs.Plan.{stray_in, slash, front, back, equals, asked, awaited, line_of, line_command, line_random, line_expected}
 
 -- why a line is bad
@@ -23,24 +21,27 @@ reason_number TooLong = 4
 reason_number BadRandom = 5
 reason_number BadExpected = 6
 
--- what a line asks for; a bad one has 10 and its reason's number
-unfoldable pub meaning_number : Meaning → ℕ
+-- what a line asks for, and a line; a bad one has 10 and its reason's number
+abbrev pub meaning_number : Meaning → ℕ
 meaning_number Blank = 0
 meaning_number (Drawn n) = 1
 meaning_number (Given n) = 2
-meaning_number (Bad r) = 10 + reason_number r
+
+unfoldable pub line_number : Result Line Reason → ℕ
+line_number (Ok l) = meaning_number l.meaning
+line_number (Err r) = 10 + reason_number r
 
 -- a text of digits: 0, or its reason's number
-unfoldable pub digits_number : Digits → ℕ
-digits_number (Fine n) = 0
-digits_number (Wrong r) = reason_number r
+unfoldable pub digits_number : Result ℕ Reason → ℕ
+digits_number (Ok n) = 0
+digits_number (Err r) = reason_number r
 
 -- ---- the number of each case, from the characters
 -- digits: 1 there are none, 2 one is none, 3 an odd number of them, 4 more than the room takes
-abbrev pub decoded_case : Decoded → ℕ
-decoded_case (Bytes n) = 0
-decoded_case NotHex = 3
-decoded_case RoomTooSmall = 4
+abbrev pub decoded_case : Result ℕ DecodeError → ℕ
+decoded_case (Ok n) = 0
+decoded_case (Err NotHex) = 3
+decoded_case (Err RoomTooSmall) = 4
 
 unfoldable pub digits_case : List ℕ → List ℕ → ℕ
 digits_case s room = pick (eqb (length s) 0) 1 (pick (stray_in s) 2 (decoded_case (decoded s room)))
@@ -70,8 +71,8 @@ line_case s command random expected =
     (meaning_case s command random))
 
 -- a line, and the three rooms before and behind it
-pub record Means (line c x e : List ℕ) (r : Line) (c' x' e' : List ℕ) : Type 0 where
-  pub number : meaning_number r.meaning ≡ line_case (said line) c x e
+pub record Means (line c x e : List ℕ) (r : Result Line Reason) (c' x' e' : List ℕ) : Type 0 where
+  pub number : line_number r ≡ line_case (said line) c x e
   pub told : r ≡ line_of (said line) c x e
   pub command : c' ≡ line_command (said line) c
   pub random : x' ≡ line_random (said line) x

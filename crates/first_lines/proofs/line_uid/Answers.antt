@@ -1,8 +1,14 @@
 -- `first_lines::line_uid` meets its contract.
 use Prim.Native.Nat.{◌≤◌}
-use Rattle.first_lines.specs.Said.{tidied, said, good_bytes, bytes_room}
-use Rattle.first_lines.proofs.Tidying.{seen, seen-fits, cut_good, cut_bytes}
-use mathlib.Core.Path.{◌≡◌, refl, ap, ap₂, ◌∙◌}
+use mathlib.Core.Bool.{true, false}
+use mathlib.Core.List.{List}
+use Prim.Native.Nat.{ℕ}
+use Rattle.std.specs.Prelude.{Some}
+use Rattle.base.specs.Bytes.{over}
+use Rattle.lines.specs.Lines.{seek}
+use Rattle.first_lines.specs.Said.{tidied, said, good_bytes, bytes_room, uid_in}
+use Rattle.first_lines.proofs.Tidying.{seen, seen-fits, cut_good, cut_bytes, whole}
+use mathlib.Core.Path.{◌≡◌, refl, sym, ap, ◌∙◌}
 use lib.ListN.{length, take, replicate, length-take}
 use Rattle.lines.proofs.Steps.{seek_within}
 use native.Mathlib.Omega.{arith}
@@ -26,16 +32,25 @@ slice_bounds-bytes_given-end c =
     let k : length c.tidy-n.new.room ≡ 1700 = search rules in
     simp length-take (omega arith)
 
-pub returns : goal.returns
+-- the text that was given is what the line says
+given : (s l : List ℕ) (n : ℕ) (q : List ℕ) → l ≡ take (seek s 0 35) s → n ≡ length (take 1700 (tidied l)) → q ≡ over (take 1700 (tidied l)) (replicate 1700 0)
+    → take n q ≡ take 1700 (said s)
 unfolding said
-returns c =
+given s l n q el en eq = seen l (replicate 1700 0) refl en eq ∙ ap (λ x. take 1700 (tidied x)) el
+
+pub returns-then-bytes_given : goal.returns-then-bytes_given
+unfolding uid_in
+returns-then-bytes_given c =
     let s = c.args.line.now in
-    let l = take c.find-e.result s in
-    let t = seen l (replicate 1700 0) refl c.tidy-n.ensures.count c.tidy-n.ensures.left
-    ∙ ap (λ e. take 1700 (tidied (take e s))) c.find-e.ensures in
-    let a = c.args in
-    let k : length a.room.now ≡ 7 = search rules in record {
-      answer = c.bytes_given.ensures.answer ∙ ap₂ (λ n x. good_bytes n x) k t ∙ cut_good 7 (omega arith) _;
-      left = c.bytes_given.ensures.left
-          ∙ ap (λ x. bytes_room x a.room.now) t ∙ cut_bytes a.room.now (omega arith) _;
-    }
+    let t = given s _ _ _ (ap (λ e. take e s) c.find-e.ensures) c.tidy-n.ensures.count c.tidy-n.ensures.left in
+    let good : good_bytes 7 (said s) ≡ true = sym (cut_good 7 (omega arith) (said s)) ∙ ap (good_bytes 7) (sym t) ∙ sym c.bytes_given.ensures.answer ∙ c.if-bytes_given.true in
+    let room = c.bytes_given.ensures.left ∙ ap (λ x. bytes_room x (replicate 7 0)) t ∙ cut_bytes (replicate 7 0) (omega arith) (said s) in
+    rw good (ap Some (room ∙ whole (said s) (replicate 7 0) refl good))
+
+pub returns-else-bytes_given : goal.returns-else-bytes_given
+unfolding uid_in
+returns-else-bytes_given c =
+    let s = c.args.line.now in
+    let t = given s _ _ _ (ap (λ e. take e s) c.find-e.ensures) c.tidy-n.ensures.count c.tidy-n.ensures.left in
+    let good : good_bytes 7 (said s) ≡ false = sym (cut_good 7 (omega arith) (said s)) ∙ ap (good_bytes 7) (sym t) ∙ sym c.bytes_given.ensures.answer ∙ c.if-bytes_given.false in
+    rw good refl

@@ -75,14 +75,14 @@ loop-at-preserved c =
           ∙ sym (line_silent (length x - c.loop-at.number) x
           c.loop-at.at c.find-end.result
           c.loop-at.number c.loop-at-test.true
-          c.find-end.ensures (sym c.silent.ensures ∙ c.if-silent.true))
+          c.find-end.ensures (sym c.silent.ensures ∙ c.if-not-silent.false))
           ∙ ap (λ k. line_from k x c.loop-at.at c.loop-at.number) (sym e)
           ∙ c.loop-at.invariant.2,
     )
 
-pub returns-in-loop-at : goal.returns-in-loop-at
+pub returns-then-not-silent : goal.returns-then-not-silent
 unfolding first_line_of
-returns-in-loop-at c =
+returns-then-not-silent c =
     let x = c.args.text.now in
     let f = seek-from x c.loop-at.at 10 in
     let g = seek_within x c.loop-at.at 10 (omega (arith, c.loop-at-test.true)) in
@@ -98,7 +98,7 @@ returns-in-loop-at c =
           sym (line_here (length x - c.loop-at.number) x
           c.loop-at.at c.find-end.result
           c.loop-at.number c.loop-at-test.true
-          c.find-end.ensures (sym c.silent.ensures ∙ c.if-silent.false))
+          c.find-end.ensures (sym c.silent.ensures ∙ c.if-not-silent.true))
           ∙ ap (λ k. line_from k x c.loop-at.at c.loop-at.number) (sym e)
           ∙ c.loop-at.invariant.2
           ∙ ap (λ m. line_from (length x) x m 1) c.mark-at.ensures;

@@ -1,6 +1,5 @@
 -- `first_lines::parts::tidy` meets its contract.
 use mathlib.Core.Path.{refl, sym, ap, ◌∙◌}
-use Prim.Native.Nat.{◌-◌}
 use lib.ListN.{length}
 use mathlib.Core.List.{[], ◌∷◌}
 use Rattle.base.specs.Bytes.{laid}
@@ -10,55 +9,34 @@ use Rattle.first_lines.proofs.Tidying.{tidied-blank, tidied_other, tidied_full, 
 use native.Mathlib.Omega.{arith}
 use Rattle.first_lines.proofs.parts.tidy.Goals as goal
 
-pub loop-i-init : goal.loop-i-init
+pub loop-c-init : goal.loop-c-init
 unfolding tidied
-loop-i-init c = (omega arith, refl, none _, omega arith)
+loop-c-init c = (refl, none _, omega arith)
 
-pub loop-i-preserved-then-is_blank : goal.loop-i-preserved-then-is_blank
-loop-i-preserved-then-is_blank c =
-    let a = c.args in (
-      omega arith,
-      c.loop-i.invariant.1,
-      renamed c.loop-i.invariant.2
-          (tidied-blank a.line.now c.loop-i.i c.loop-i-test.true
-          (sym c.is_blank.ensures ∙ c.if-is_blank.true)),
-      c.loop-i.invariant.3,
-    )
-
-pub shape_of-room-then-n-room : goal.shape_of-room-then-n-room
-shape_of-room-then-n-room c = c.loop-i.invariant.1
+pub loop-c-preserved-then-is_blank : goal.loop-c-preserved-then-is_blank
+loop-c-preserved-then-is_blank c = (
+  c.loop-c.invariant.0,
+  renamed c.loop-c.invariant.1 (tidied-blank c.args.line.now c.loop-c.c-index (omega arith) (sym c.is_blank.ensures ∙ c.if-is_blank.true)),
+  c.loop-c.invariant.2,
+)
 
 pub returns-then-n-room : goal.returns-then-n-room
-returns-then-n-room c = record {
-  count = (let a = c.args in
-      held c.loop-i.invariant.2 (tidied_full a.line.now c.loop-i.i
-      (sym c.loop-i.invariant.2.len ∙ c.if-n-room.true ∙ c.loop-i.invariant.1))).0;
-  left = (let a = c.args in
-      held c.loop-i.invariant.2 (tidied_full a.line.now c.loop-i.i
-      (sym c.loop-i.invariant.2.len ∙ c.if-n-room.true ∙ c.loop-i.invariant.1))).1;
-}
+returns-then-n-room c =
+    let h = held c.loop-c.invariant.1 (tidied_full c.args.line.now c.loop-c.c-index
+    (sym c.loop-c.invariant.1.len ∙ c.if-n-room.true ∙ c.loop-c.invariant.0)) in
+    record { count = h.0; left = h.1 }
 
-pub loop-i-preserved : goal.loop-i-preserved
-loop-i-preserved c =
-    let a = c.args in (
-      omega arith,
-      ap length c.put.ensures ∙ laid-length _ _ _ ∙ c.loop-i.invariant.1,
-      renamed (more c.loop-i.invariant.2 (_ ∷ []) _ (omega (arith, c.if-n-room.false, c.loop-i.invariant.1, c.loop-i.invariant.3))
-          (c.put.ensures ∙ ap (λ v. laid (v ∷ []) c.loop-i.n c.loop-i.room)
-          c.capital.ensures))
-          (tidied_other a.line.now c.loop-i.i c.loop-i-test.true (sym c.is_blank.ensures ∙ c.if-is_blank.false)),
-      omega (arith, c.if-n-room.false, c.loop-i.invariant.1, c.loop-i.invariant.3),
-    )
-
-pub shape_of-room : goal.shape_of-room
-shape_of-room c = c.loop-i.invariant.1
+pub loop-c-preserved : goal.loop-c-preserved
+loop-c-preserved c = (
+  ap length c.put.ensures ∙ laid-length _ _ _ ∙ c.loop-c.invariant.0,
+  renamed (more c.loop-c.invariant.1 (_ ∷ []) _ (omega (arith, c.if-n-room.false, c.loop-c.invariant.0, c.loop-c.invariant.2))
+      (c.put.ensures ∙ ap (λ v. laid (v ∷ []) c.loop-c.n c.loop-c.room) c.capital.ensures))
+      (tidied_other c.args.line.now c.loop-c.c-index (omega arith) (sym c.is_blank.ensures ∙ c.if-is_blank.false)),
+  omega (arith, c.if-n-room.false, c.loop-c.invariant.0, c.loop-c.invariant.2),
+)
 
 pub returns : goal.returns
-returns c = record {
-  count = (let a = c.args in
-      held c.loop-i.invariant.2 (tidied-whole a.line.now c.loop-i.i {l = length a.room.now}
-      c.loop-i-test.false (omega (arith, c.loop-i.invariant.2.len, c.loop-i.invariant.3)))).0;
-  left = (let a = c.args in
-      held c.loop-i.invariant.2 (tidied-whole a.line.now c.loop-i.i {l = length a.room.now}
-      c.loop-i-test.false (omega (arith, c.loop-i.invariant.2.len, c.loop-i.invariant.3)))).1;
-}
+returns c =
+    let h = held c.loop-c.invariant.1 (tidied-whole c.args.line.now c.loop-c.c-index {l = length c.args.room.now}
+    (omega arith) (omega (arith, c.loop-c.invariant.1.len, c.loop-c.invariant.2))) in
+    record { count = h.0; left = h.1 }
