@@ -6,7 +6,7 @@ ghost use Rattle.fields.specs.Fields.{one, after, written, string_of};
 ghost use Rattle.rules.specs.Rules.{rights, sdm_rights, modes};
 ghost use Rattle.writing.specs.Answers.{record_as, record_room};
 
-use super::Written;
+use super::NotWritten;
 use fields::{Head, Settings};
 
 fn flag(b: bool, x: u8) -> u8
@@ -24,18 +24,15 @@ fn pair(high: u8, low: u8) -> u8
 }
 
 // Three bytes for a present field, low byte first.
+#[tactic(auto, unfolding(base::specs::Bytes::low), using(crate::proofs::Laying::laid_none))]
 fn lay_field(room: &mut [u8], at: usize, present: bool, v: u32) -> usize
     requires { (at ≤ 27) × (30 ≤ length room.old) }
     ensures place { (result ≡ after at present) × (result ≤ at + 3) }
     ensures left { room.new ≡ laid (pick present (low 3 v) []) at room.old }
 {
     if present {
-        let b = [
-            (v % 256) as u8,
-            (v / 256 % 256) as u8,
-            (v / 256 / 256 % 256) as u8,
-        ];
-        base::put(&b, room, at);
+        let [low, middle, high, _] = v.to_le_bytes();
+        base::put(&[low, middle, high], room, at);
         return at + 3;
     }
     at
@@ -47,12 +44,9 @@ fn lay_fields(there: [bool; 8], v: [u32; 8], room: &mut [u8]) -> usize
     ensures place { (result ≡ 6 + length (written there v)) × (result ≤ 30) }
     ensures left { room.new ≡ laid (written there v) 6 room.old }
 {
-    let mut at: usize = 6;
-    let mut i: usize = 0;
-    while i < 8 {
-        let next = lay_field(room, at, there[i], v[i]);
-        at = next;
-        i += 1;
+    let mut at = 6;
+    for (i, &present) in there.iter().enumerate() {
+        at = lay_field(room, at, present, v[i]);
     }
     at
 }
@@ -96,20 +90,20 @@ fn lay_string(r: Settings, room: &mut [u8]) -> usize
 }
 
 // The first n bytes at the front of a room, where they fit.
-fn lay_front(own: &[u8], n: usize, room: &mut [u8]) -> Written
+fn lay_front(own: &[u8], n: usize, room: &mut [u8]) -> Result<usize, NotWritten>
     requires { n ≤ length own.now }
-    ensures answer { result ≡ pick (leb n (length room.old)) (Written.Laid n) Written.NoRoom }
+    ensures answer { result ≡ pick (leb n (length room.old)) (Ok n) (Err NotWritten.NoRoom) }
     ensures left { room.new ≡ pick (leb n (length room.old)) (over (take n own.now) room.old) room.old }
 {
-    if n <= room.len() {
-        base::put(&own[..n], room, 0);
-        return Written::Laid(n);
+    if room.len() < n {
+        return Err(NotWritten::NoRoom);
     }
-    Written::NoRoom
+    base::put(&own[..n], room, 0);
+    Ok(n)
 }
 
 // The string of a record that meets the rules.
-pub fn lay_record(r: Settings, room: &mut [u8]) -> Written
+pub fn lay_record(r: Settings, room: &mut [u8]) -> Result<usize, NotWritten>
     requires { (modes r.head.mode ≡ true) × (rights r.head ≡ true) × (sdm_rights r.head ≡ true) }
     ensures answer { result ≡ record_as true r room.old }
     ensures left { room.new ≡ record_room true r room.old }
