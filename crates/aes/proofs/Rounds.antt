@@ -1,20 +1,22 @@
 -- One round more, as the loops of the cipher and its inverse take it, and the whole.
-use mathlib.Core.Path.{◌≡◌, refl, sym, ap, ap₂, ◌∙◌}
+use mathlib.Core.Path.{◌≡◌, refl, sym, ap, ap₂, subst, ◌∙◌}
 use mathlib.Core.List.{List}
-use Prim.Native.Nat.{ℕ, zero, suc, ◌+◌, ◌-◌, ◌<◌}
-use native.Mathlib.Numerals.{add-one, sub-one}
+use Prim.Native.Nat.{ℕ, zero, suc, ◌-◌, ◌<◌}
+use native.Mathlib.Numerals.{sub-one}
 use native.Mathlib.Omega.{arith}
 use Rattle.sbox.specs.Tables.{sbox, inv_sbox}
 use Rattle.sbox.specs.Words.{mixing_table, unmixing_table}
 use Rattle.words.specs.Words.{block_of, words_of}
-use Rattle.aes.specs.Block.{round_key, substitute, shift_rows, inv_shift_rows, mix_columns, inv_mix_columns, add_round_key, rounds, rounds_back, cipher, inv_cipher, ciphered, block_cost}
+use Rattle.aes.specs.Block.{round_key, substitute, shift_rows, inv_shift_rows, mix_columns, inv_mix_columns, add_round_key, rounds, rounds_back, cipher, inv_cipher, counted, block_cost}
 use Rattle.aes.specs.ByTables.{with_key, mixed_by, shifted_by, rounds_by, cipher_by, Turns, Enciphers, unshifted_by, unmixed_by, back_by, inv_cipher_by, TurnsBack, Deciphers}
 use Rattle.aes.proofs.Words.{mixed_table, shifted_table, unshifted_table, unmixed_table}
 
-rounds_more : (w : List (List ℕ)) (n : ℕ) (s : List ℕ)
-    → rounds w (n + 1) s ≡ add_round_key (mix_columns (shift_rows (substitute sbox (rounds w n s)))) (round_key w (n + 1))
+rounds_more : (w : List (List ℕ)) (n : ℕ) (s : List ℕ) → 0 < n
+    → rounds w n s ≡ add_round_key (mix_columns (shift_rows (substitute sbox (rounds w (n - 1) s)))) (round_key w n)
 unfolding rounds
-rounds_more w n s = rw add-one refl
+rounds_more w zero s h = absurd (omega arith)
+rounds_more w (suc n) s h =
+    ap (λ m. add_round_key (mix_columns (shift_rows (substitute sbox (rounds w m s)))) (round_key w (suc n))) (sym (sub-one (suc n)))
 
 back_more : (w : List (List ℕ)) (n : ℕ) (s : List ℕ) → 0 < n
     → rounds_back w n s ≡ rounds_back w (n - 1) (inv_mix_columns (add_round_key (substitute inv_sbox (inv_shift_rows s)) (round_key w n)))
@@ -27,10 +29,11 @@ back_none : (w : List (List ℕ)) (s : List ℕ) → rounds_back w 0 s ≡ s
 unfolding rounds_back
 back_none w s = refl
 
-by_more : (t : List ℕ) (w : List (List ℕ)) (n : ℕ) (x : List ℕ)
-    → rounds_by t w (n + 1) x ≡ with_key (mixed_by t (rounds_by t w n x)) (round_key w (n + 1))
+by_more : (t : List ℕ) (w : List (List ℕ)) (n : ℕ) (x : List ℕ) → 0 < n
+    → rounds_by t w n x ≡ with_key (mixed_by t (rounds_by t w (n - 1) x)) (round_key w n)
 unfolding rounds_by
-by_more t w n x = rw add-one refl
+by_more t w zero x h = absurd (omega arith)
+by_more t w (suc n) x h = ap (λ m. with_key (mixed_by t (rounds_by t w m x)) (round_key w (suc n))) (sym (sub-one (suc n)))
 
 back_by_more : (v u : List ℕ) (w : List (List ℕ)) (n : ℕ) (x : List ℕ) → 0 < n
     → back_by v u w n x ≡ back_by v u w (n - 1) (unmixed_by u (with_key (unshifted_by v x) (round_key w n)))
@@ -48,19 +51,21 @@ pub forth_none : (t : List ℕ) (w : List (List ℕ)) (x : List ℕ) → Forth t
 unfolding rounds_by rounds
 forth_none t w x = record { by = refl; block = λ e. refl }
 
-pub forth_more : (t : List ℕ) (w : List (List ℕ)) (x₀ x r : List ℕ) (i : ℕ) → Forth t w x₀ x i → Turns t x (round_key w (i + 1)) r → Forth t w x₀ r (i + 1)
-forth_more t w x₀ x r i h c =
-    let k = round_key w (i + 1) in
+pub forth_more : (t : List ℕ) (w : List (List ℕ)) (x₀ x r : List ℕ) (i j : ℕ) → 0 < i → j ≡ i → Forth t w x₀ x (i - 1) → Turns t x (round_key w i) r
+    → Forth t w x₀ r j
+forth_more t w x₀ x r i j p e h c =
+    let k = round_key w i in
+    subst (Forth t w x₀ r) (sym e)
     record {
-      by = c.by ∙ ap (λ y. with_key (mixed_by t y) k) h.by ∙ sym (by_more t w i x₀);
+      by = c.by ∙ ap (λ y. with_key (mixed_by t y) k) h.by ∙ sym (by_more t w i x₀ p);
       block = λ e.
           c.key ∙ ap (λ y. add_round_key y k) (mixed_table t x e ∙ ap (λ y. mix_columns (shift_rows (substitute sbox y))) (h.block e))
-          ∙ sym (rounds_more w i (block_of x₀));
+          ∙ sym (rounds_more w i (block_of x₀) p);
     }
 
 pub enciphers : (t : List ℕ) (w : List (List ℕ)) (s q x₀ x z y r : List ℕ) (i : ℕ) → i ≡ 9 → (q ≡ words_of s) × (block_of q ≡ s)
     → (x₀ ≡ with_key q (round_key w 0)) × (block_of x₀ ≡ add_round_key (block_of q) (round_key w 0)) → Forth t w x₀ x i → z ≡ shifted_by t x
-    → (y ≡ with_key z (round_key w 10)) × (block_of y ≡ add_round_key (block_of z) (round_key w 10)) → r ≡ block_of y → Enciphers t w s (ciphered r block_cost)
+    → (y ≡ with_key z (round_key w 10)) × (block_of y ≡ add_round_key (block_of z) (round_key w 10)) → r ≡ block_of y → Enciphers t w s (counted r block_cost)
 unfolding cipher_by cipher
 enciphers t w s q x₀ x z y r i n a b h d f g =
     let first = round_key w 0 in
@@ -100,7 +105,7 @@ by_none v u w x = refl
 
 pub deciphers : (v u : List ℕ) (w : List (List ℕ)) (s q x₀ x z y r : List ℕ) (i : ℕ) → 0 ≡ i → (q ≡ words_of s) × (block_of q ≡ s)
     → (x₀ ≡ with_key q (round_key w 10)) × (block_of x₀ ≡ add_round_key (block_of q) (round_key w 10)) → Back v u w x₀ x i → z ≡ unshifted_by v x
-    → (y ≡ with_key z (round_key w 0)) × (block_of y ≡ add_round_key (block_of z) (round_key w 0)) → r ≡ block_of y → Deciphers v u w s (ciphered r block_cost)
+    → (y ≡ with_key z (round_key w 0)) × (block_of y ≡ add_round_key (block_of z) (round_key w 0)) → r ≡ block_of y → Deciphers v u w s (counted r block_cost)
 unfolding inv_cipher_by inv_cipher
 deciphers v u w s q x₀ x z y r i n a b h d f g =
     let first = round_key w 0 in

@@ -5,7 +5,7 @@ use Rattle.base.specs.Bytes.{byte_at, AllBytes, tab}
 use Rattle.sbox.specs.Field.{◌⊕◌}
 use Rattle.sbox.specs.Columns.{mixed, unmixed}
 use Rattle.sbox.specs.Tables.{sbox, inv_sbox}
-use Rattle.aes.specs.declared.Ciphered.{Ciphered}
+use Rattle.aes.specs.declared.Counted.{Counted}
 
 -- 16 bytes
 pub record IsBlock (s : List ℕ) : Type 0 where
@@ -70,6 +70,6 @@ inv_cipher w s = add_round_key (substitute inv_sbox (inv_shift_rows (rounds_back
 abbrev pub block_cost : ℕ
 block_cost = 1
 
--- 16 bytes, and how many blocks were computed for them
-abbrev pub ciphered : List ℕ → ℕ → Ciphered
-ciphered b n = record { bytes = b; cost = n }
+-- bytes, and how many blocks were computed for them
+abbrev pub counted : {N : ℕ} → List ℕ → ℕ → Counted N
+counted b n = record { bytes = b; cost = n }

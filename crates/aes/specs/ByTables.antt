@@ -7,7 +7,7 @@ use Rattle.sbox.specs.Tables.{inv_sbox}
 use Rattle.sbox.specs.Words.{packed, mixing_table, unmixing_table}
 use Rattle.words.specs.Words.{block_of, words_of, column_of, picked_of}
 use Rattle.aes.specs.Block.{round_key, add_round_key, cipher, inv_cipher, block_cost}
-use Rattle.aes.specs.declared.Ciphered.{Ciphered}
+use Rattle.aes.specs.declared.Counted.{Counted}
 
 -- four words and a round key, summed
 unfoldable pub with_key : List ℕ → List ℕ → List ℕ
@@ -49,7 +49,7 @@ pub record Turns (t s k r : List ℕ) : Type 0 where
   pub by : r ≡ with_key (mixed_by t s) k
   pub key : block_of r ≡ add_round_key (block_of (mixed_by t s)) k
 
-pub record Enciphers (t : List ℕ) (w : List (List ℕ)) (s : List ℕ) (r : Ciphered) : Type 0 where
+pub record Enciphers (t : List ℕ) (w : List (List ℕ)) (s : List ℕ) (r : Counted 16) : Type 0 where
   pub by : r.bytes ≡ cipher_by t w s
   pub standard : t ≡ mixing_table → r.bytes ≡ cipher w s
   pub cost : r.cost ≡ block_cost
@@ -77,7 +77,7 @@ pub record TurnsBack (v u s k r : List ℕ) : Type 0 where
   pub by : r ≡ unmixed_by u (with_key (unshifted_by v s) k)
   pub key : block_of (with_key (unshifted_by v s) k) ≡ add_round_key (block_of (unshifted_by v s)) k
 
-pub record Deciphers (v u : List ℕ) (w : List (List ℕ)) (s : List ℕ) (r : Ciphered) : Type 0 where
+pub record Deciphers (v u : List ℕ) (w : List (List ℕ)) (s : List ℕ) (r : Counted 16) : Type 0 where
   pub by : r.bytes ≡ inv_cipher_by v u w s
   pub standard : v ≡ inv_sbox → u ≡ unmixing_table → r.bytes ≡ inv_cipher w s
   pub cost : r.cost ≡ block_cost

@@ -6,9 +6,9 @@ mod block;
 
 pub use block::{decrypt, decrypt_with, encrypt, encrypt_with, xor_block};
 
-// 16 bytes, and how many blocks were computed for them.
-#[derive(Clone, Copy)]
-pub struct Ciphered {
-    pub bytes: [u8; 16],
+// Bytes, and how many blocks were computed for them.
+#[derive(Clone, Copy, Debug, PartialEq, Eq)]
+pub struct Counted<const N: usize> {
+    pub bytes: [u8; N],
     pub cost: usize,
 }
