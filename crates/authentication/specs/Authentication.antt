@@ -8,7 +8,6 @@ use Rattle.key_expansion.specs.Keys.{key_expansion}
 use Rattle.authentication.specs.declared.Proof.{Proof}
 use Rattle.authentication.specs.declared.Proof.TheVariants.{Right, NotThirtyTwo, WrongRndB}
 use Rattle.authentication.specs.declared.PartTwo.{PartTwo}
-use Rattle.authentication.specs.declared.Pair.{Pair}
 
 abbrev pub zeros : ℕ → List ℕ
 zeros n = replicate n 0
@@ -67,7 +66,3 @@ first_reply_cost = cbc_cost 32
 
 abbrev pub next_reply_cost : ℕ
 next_reply_cost = cbc_cost 16
-
--- 32 bytes, and how many blocks were computed for them
-abbrev pub paired : List ℕ → ℕ → Pair
-paired b n = record { bytes = b; cost = n }

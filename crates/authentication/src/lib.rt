@@ -2,11 +2,11 @@
 #![tactic(auto)]
 
 ghost use Rattle.std.specs.Prelude.{◌≡◌, length};
-ghost use Rattle.authentication.specs.Authentication.{enciphered, deciphered, turned, part_two, first_reply, next_reply, part_one_cost, first_reply_cost, next_reply_cost, paired};
-ghost use Rattle.aes.specs.Block.{ciphered};
+ghost use Rattle.authentication.specs.Authentication.{enciphered, deciphered, turned, part_two, first_reply, next_reply, part_one_cost, first_reply_cost, next_reply_cost};
+ghost use Rattle.aes.specs.Block.{counted};
 ghost use Rattle.cbc.specs.Cbc.{cbc_cost};
 
-use aes::Ciphered;
+use aes::Counted;
 
 // What the check of part two came to.
 #[derive(Clone, Copy)]
@@ -26,34 +26,27 @@ pub struct PartTwo {
     pub cost: usize,
 }
 
-// Two blocks, and how many were computed for them.
-#[derive(Clone, Copy)]
-pub struct Pair {
-    pub bytes: [u8; 32],
-    pub cost: usize,
-}
-
 // E(Kx; one block).
-fn encipher_one(kx: [u8; 16], x: [u8; 16]) -> Ciphered
-    ensures { result ≡ ciphered (enciphered kx x) (cbc_cost 16) }
+fn encipher_one(kx: [u8; 16], x: [u8; 16]) -> Counted<16>
+    ensures { result ≡ counted (enciphered kx x) (cbc_cost 16) }
 {
     let w = key_expansion::expand(kx);
     let mut b = x;
     let c = cbc::cbc_encrypt(&w, [0u8; 16], &mut b);
-    Ciphered {
+    Counted {
         bytes: b,
         cost: c.cost,
     }
 }
 
 // E(Kx; two blocks).
-fn encipher_two(kx: [u8; 16], x: [u8; 32]) -> Pair
-    ensures { result ≡ paired (enciphered kx x) (cbc_cost 32) }
+fn encipher_two(kx: [u8; 16], x: [u8; 32]) -> Counted<32>
+    ensures { result ≡ counted (enciphered kx x) (cbc_cost 32) }
 {
     let w = key_expansion::expand(kx);
     let mut b = x;
     let c = cbc::cbc_encrypt(&w, [0u8; 16], &mut b);
-    Pair {
+    Counted {
         bytes: b,
         cost: c.cost,
     }
@@ -70,22 +63,22 @@ fn turn(x: [u8; 16]) -> [u8; 16]
 }
 
 // The reply of part one: E(Kx; RndB).
-pub fn part_one(kx: [u8; 16], b: [u8; 16]) -> Ciphered
-    ensures { result ≡ ciphered (enciphered kx b) part_one_cost }
+pub fn part_one(kx: [u8; 16], b: [u8; 16]) -> Counted<16>
+    ensures { result ≡ counted (enciphered kx b) part_one_cost }
 {
     encipher_one(kx, b)
 }
 
 // RndA and RndB' of a part two of 32 bytes.
-fn decipher(kx: [u8; 16], x: &[u8]) -> Pair
+fn decipher(kx: [u8; 16], x: &[u8]) -> Counted<32>
     requires { length x.now ≡ 32 }
-    ensures { result ≡ paired (deciphered kx x.now) (cbc_cost 32) }
+    ensures { result ≡ counted (deciphered kx x.now) (cbc_cost 32) }
 {
     let w = key_expansion::expand(kx);
     let mut b = [0u8; 32];
     base::put(x, &mut b, 0);
     let c = cbc::cbc_decrypt(&w, [0u8; 16], &mut b);
-    Pair {
+    Counted {
         bytes: b,
         cost: c.cost,
     }
@@ -123,8 +116,8 @@ pub fn check_part_two(kx: [u8; 16], b: [u8; 16], x: &[u8]) -> PartTwo
 }
 
 // The reply of part two of 71: TI, RndA', PDcap2 and PCDcap2.
-pub fn first_reply(kx: [u8; 16], ti: [u8; 4], a: [u8; 16], cap: [u8; 6]) -> Pair
-    ensures { result ≡ paired (first_reply kx ti a cap) first_reply_cost }
+pub fn first_reply(kx: [u8; 16], ti: [u8; 4], a: [u8; 16], cap: [u8; 6]) -> Counted<32>
+    ensures { result ≡ counted (first_reply kx ti a cap) first_reply_cost }
 {
     let mut b = [0u8; 32];
     let t = turn(a);
@@ -136,8 +129,8 @@ pub fn first_reply(kx: [u8; 16], ti: [u8; 4], a: [u8; 16], cap: [u8; 6]) -> Pair
 }
 
 // The reply of part two of 77: RndA'.
-pub fn next_reply(kx: [u8; 16], a: [u8; 16]) -> Ciphered
-    ensures { result ≡ ciphered (next_reply kx a) next_reply_cost }
+pub fn next_reply(kx: [u8; 16], a: [u8; 16]) -> Counted<16>
+    ensures { result ≡ counted (next_reply kx a) next_reply_cost }
 {
     encipher_one(kx, turn(a))
 }

@@ -4,7 +4,6 @@ use Rattle.base.specs.Decide.{pick}
 use Rattle.base.specs.Bytes.{byte_at, tab}
 use Rattle.aes.specs.Block.{cipher, xor_block}
 use Rattle.key_expansion.specs.Keys.{key_expansion}
-use Rattle.cmac.specs.declared.Truncated.{Truncated}
 
 -- a block shifted to the left by one bit: each byte's low seven bits doubled, and the high bit of the byte behind it
 unfoldable pub shifted : List ℕ → List ℕ
@@ -52,7 +51,3 @@ even_places t = tab 8 (λ i. byte_at t (i * 2 + 1))
 -- 9.1.3: the MAC of a text under a key: the CMAC cut to its even places
 unfoldable pub mac : List ℕ → List ℕ → List ℕ
 mac key text = even_places (cmac (key_expansion key) text)
-
--- those 8 bytes, and how many blocks were computed for them
-abbrev pub truncated : List ℕ → ℕ → Truncated
-truncated b n = record { bytes = b; cost = n }

@@ -3,18 +3,11 @@
 
 ghost use Rattle.std.specs.Prelude.{◌≡◌, ◌∷◌, ◌++◌, ◌+◌, ◌-◌, ◌≤◌, ◌<◌, length, drop, replicate};
 ghost use Rattle.sbox.specs.Words.{mixing_table};
-ghost use Rattle.cmac.specs.Cmac.{shifted, doubled, last_block, cmac, even_places, cmac_cost, truncated};
-ghost use Rattle.aes.specs.Block.{ciphered, block_cost};
+ghost use Rattle.cmac.specs.Cmac.{shifted, doubled, last_block, cmac, even_places, cmac_cost};
+ghost use Rattle.aes.specs.Block.{counted, block_cost};
 
-use aes::{Ciphered, encrypt_with, xor_block};
+use aes::{Counted, encrypt_with, xor_block};
 use cbc::load;
-
-// The 8 bytes that are kept of a CMAC, and how many blocks were computed for them.
-#[derive(Clone, Copy)]
-pub struct Truncated {
-    pub bytes: [u8; 8],
-    pub cost: usize,
-}
 
 // A block shifted to the left by one bit.
 fn shift(s: [u8; 16]) -> [u8; 16]
@@ -54,29 +47,29 @@ fn padded(s: &[u8]) -> [u8; 16]
 }
 
 // The last block of a message, summed with its subkey, for which a block is computed.
-fn last_block(t: &[u32; 256], w: &[[u8; 16]; 11], s: &[u8]) -> Ciphered
+fn last_block(t: &[u32; 256], w: &[[u8; 16]; 11], s: &[u8]) -> Counted<16>
     requires { (t.now ≡ mixing_table) × (length s.now ≤ 16) }
-    ensures { result ≡ ciphered (last_block w.now s.now) block_cost }
+    ensures { result ≡ counted (last_block w.now s.now) block_cost }
 {
     let zero = encrypt_with(t, w, [0u8; 16]);
     let cost = zero.cost;
     let l = zero.bytes;
     let k1 = double_block(l);
     if s.len() == 16 {
-        return Ciphered {
+        return Counted {
             bytes: xor_block(load(s, 0), k1),
             cost,
         };
     }
-    Ciphered {
+    Counted {
         bytes: xor_block(padded(s), double_block(k1)),
         cost,
     }
 }
 
 // The CMAC of a message of any length.
-pub fn cmac_of(w: &[[u8; 16]; 11], s: &[u8]) -> Ciphered
-    ensures { result ≡ ciphered (cmac w.now s.now) (cmac_cost (length s.now)) }
+pub fn cmac_of(w: &[[u8; 16]; 11], s: &[u8]) -> Counted<16>
+    ensures { result ≡ counted (cmac w.now s.now) (cmac_cost (length s.now)) }
 {
     let t = sbox::mixing();
     let mut v = [0u8; 16];
@@ -93,19 +86,19 @@ pub fn cmac_of(w: &[[u8; 16]; 11], s: &[u8]) -> Ciphered
     let x = last.bytes;
     let end = encrypt_with(&t, w, xor_block(x, v));
     let bytes = end.bytes;
-    Ciphered {
+    Counted {
         bytes,
         cost: cost + last.cost + end.cost,
     }
 }
 
 // The second, fourth and every further even place of the CMAC.
-pub fn mac_of(w: &[[u8; 16]; 11], s: &[u8]) -> Truncated
-    ensures { result ≡ truncated (even_places (cmac w.now s.now)) (cmac_cost (length s.now)) }
+pub fn mac_of(w: &[[u8; 16]; 11], s: &[u8]) -> Counted<8>
+    ensures { result ≡ counted (even_places (cmac w.now s.now)) (cmac_cost (length s.now)) }
 {
     let c = cmac_of(w, s);
     let t = c.bytes;
-    Truncated {
+    Counted {
         bytes: [t[1], t[3], t[5], t[7], t[9], t[11], t[13], t[15]],
         cost: c.cost,
     }

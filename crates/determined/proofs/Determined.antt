@@ -7,7 +7,7 @@ use Prim.Native.Nat.{ℕ, ◌≤◌}
 use native.Mathlib.Omega.{arith}
 use lib.ListN.{length, take}
 use lib.Seq.{length-take-le}
-use Rattle.aes.specs.declared.Ciphered.{Ciphered}
+use Rattle.aes.specs.declared.Counted.{Counted}
 use Rattle.cbc.specs.declared.Chain.{Chain}
 use Rattle.cbc.specs.declared.Chained.{Chained}
 use Rattle.cbc.specs.Cbc.{Chains}
@@ -51,8 +51,8 @@ fourfold r q first₁ first₂ second₁ second₂ third₁ third₂ p h =
     (once r q p.0 h.0, thrice first₁ first₂ second₁ second₂ third₁ third₂ p.1 h.1)
 
 -- ---- results that say what they cost: equal where both parts are
-pub ciphered_once : (r q : Ciphered) → r.bytes ≡ q.bytes → r.cost ≡ q.cost → r ≡ q
-ciphered_once r q e c = let made : List ℕ → ℕ → Ciphered = λ b n. record { bytes = b; cost = n } in ap₂ made e c
+pub counted_once : {N : ℕ} (r q : Counted N) → r.bytes ≡ q.bytes → r.cost ≡ q.cost → r ≡ q
+counted_once {N} r q e c = let made : List ℕ → ℕ → Counted N = λ b n. record { bytes = b; cost = n } in ap₂ made e c
 
 chain_once : (r q : Chain) → r.chained ≡ q.chained → r.cost ≡ q.cost → r ≡ q
 chain_once r q e c = let made : Chained → ℕ → Chain = λ b n. record { chained = b; cost = n } in ap₂ made e c

@@ -11,13 +11,12 @@ use Rattle.sbox.specs.Tables.{inv_sbox, sbox}
 use Rattle.sbox.specs.Words.{mixing_table, unmixing_table, packed}
 use Rattle.words.specs.Words.{block_of, column_of, picked_of, words_of}
 use Rattle.key_expansion.specs.Keys.{key_expansion}
-use Rattle.aes.specs.Block.{block_cost, cipher, ciphered, inv_cipher, xor_block}
-use Rattle.aes.specs.declared.Ciphered.{Ciphered}
+use Rattle.aes.specs.Block.{block_cost, cipher, counted, inv_cipher, xor_block}
+use Rattle.aes.specs.declared.Counted.{Counted}
 use Rattle.aes.specs.ByTables.{Deciphers, Enciphers}
 use Rattle.cbc.specs.Cbc.{Chains, block_at, cbc_back, cbc_out}
 use Rattle.cbc.specs.declared.Chain.{Chain}
-use Rattle.cmac.specs.Cmac.{cmac, cmac_cost, even_places, mac, truncated}
-use Rattle.cmac.specs.declared.Truncated.{Truncated}
+use Rattle.cmac.specs.Cmac.{cmac, cmac_cost, even_places, mac}
 use Rattle.fields.specs.Fields.{has_counter, has_enc, has_mac, has_picc, has_uid, head_of, listed, places_in, present, read_of, sdm_on, size_of}
 use Rattle.fields.specs.declared.Head.{Head}
 use Rattle.fields.specs.declared.Places.{Places}
@@ -43,8 +42,7 @@ use Rattle.crc.specs.Crc.{crc}
 use Rattle.sdm.specs.Tap.{Hides, picc_cost, picc_data, tap_enc_key, tap_iv, tap_iv_cost, tap_key_cost, tap_mac_key}
 use Rattle.sdm.specs.declared.Hidden.{Hidden}
 use Rattle.sdm.specs.declared.Tap.{Tap}
-use Rattle.authentication.specs.Authentication.{enciphered, first_reply, first_reply_cost, next_reply, next_reply_cost, paired, part_one_cost, part_two}
-use Rattle.authentication.specs.declared.Pair.{Pair}
+use Rattle.authentication.specs.Authentication.{enciphered, first_reply, first_reply_cost, next_reply, next_reply_cost, part_one_cost, part_two}
 use Rattle.authentication.specs.declared.PartTwo.{PartTwo}
 use Rattle.session_keys.specs.Keys.{session_keys}
 use Rattle.session_keys.specs.declared.Keys.{Keys}
@@ -61,14 +59,13 @@ use Rattle.opening.specs.declared.OpenedFor.{OpenedFor}
 use Rattle.lines.specs.Hex.{char_of, chars_room, decoded, decoded_number, decoded_room, digit_of, is_hex}
 use Rattle.lines.specs.Lines.{seek}
 use Rattle.lines.specs.declared.Decoded.{Decoded}
-use Rattle.mirror.specs.Mirrors.{dynamic_cost, dynamic_data, overlaid}
+use Rattle.mirror.specs.Mirrors.{dynamic_cost, dynamic_data}
 use Rattle.mirror.specs.declared.Mirror.{Mirror}
-use Rattle.mirror.specs.declared.Overlaid.{Overlaid}
 use Rattle.determined.specs.Determining.{Determined, DeterminedIn}
 use Rattle.rules.specs.declared.Examined.{Examined}
 use Rattle.settings.specs.declared.Seen.{Seen}
 use Rattle.fields.specs.Normal.{normal}
-use Rattle.determined.proofs.Determined.{once, twice, ciphered_once, chains_once, pads_once, opens_once, closes_once, hides_once}
+use Rattle.determined.proofs.Determined.{once, twice, counted_once, chains_once, pads_once, opens_once, closes_once, hides_once}
 
 -- ---- base
 pub at_determined : (s : List ℕ) (i : ℕ) → Determined (λ (r : ℕ). r ≡ byte_at s i)
@@ -114,17 +111,17 @@ pub expand_determined : (key : List ℕ) → Determined (λ (r : List (List ℕ)
 expand_determined key = once
 
 -- ---- aes
-pub decrypt_determined : (w : List (List ℕ)) (s : List ℕ) → Determined (λ (r : Ciphered). r ≡ ciphered (inv_cipher w s) block_cost)
+pub decrypt_determined : (w : List (List ℕ)) (s : List ℕ) → Determined (λ (r : Counted 16). r ≡ counted (inv_cipher w s) block_cost)
 decrypt_determined w s = once
 
-pub decrypt_with_determined : (v u : List ℕ) (w : List (List ℕ)) (s : List ℕ) → Determined (λ (r : Ciphered). Deciphers v u w s r)
-decrypt_with_determined v u w s r q p h = ciphered_once r q (p.by ∙ sym h.by) (p.cost ∙ sym h.cost)
+pub decrypt_with_determined : (v u : List ℕ) (w : List (List ℕ)) (s : List ℕ) → Determined (λ (r : Counted 16). Deciphers v u w s r)
+decrypt_with_determined v u w s r q p h = counted_once r q (p.by ∙ sym h.by) (p.cost ∙ sym h.cost)
 
-pub encrypt_determined : (w : List (List ℕ)) (s : List ℕ) → Determined (λ (r : Ciphered). r ≡ ciphered (cipher w s) block_cost)
+pub encrypt_determined : (w : List (List ℕ)) (s : List ℕ) → Determined (λ (r : Counted 16). r ≡ counted (cipher w s) block_cost)
 encrypt_determined w s = once
 
-pub encrypt_with_determined : (t : List ℕ) (w : List (List ℕ)) (s : List ℕ) → Determined (λ (r : Ciphered). Enciphers t w s r)
-encrypt_with_determined t w s r q p h = ciphered_once r q (p.by ∙ sym h.by) (p.cost ∙ sym h.cost)
+pub encrypt_with_determined : (t : List ℕ) (w : List (List ℕ)) (s : List ℕ) → Determined (λ (r : Counted 16). Enciphers t w s r)
+encrypt_with_determined t w s r q p h = counted_once r q (p.by ∙ sym h.by) (p.cost ∙ sym h.cost)
 
 pub xor_block_determined : (a b : List ℕ) → Determined (λ (r : List ℕ). r ≡ xor_block a b)
 xor_block_determined a b = once
@@ -140,10 +137,10 @@ pub cbc_decrypt_determined : (w : List (List ℕ)) (iv buf : List ℕ) → Deter
 cbc_decrypt_determined w iv buf = chains_once
 
 -- ---- cmac
-pub cmac_of_determined : (w : List (List ℕ)) (s : List ℕ) → Determined (λ (r : Ciphered). r ≡ ciphered (cmac w s) (cmac_cost (length s)))
+pub cmac_of_determined : (w : List (List ℕ)) (s : List ℕ) → Determined (λ (r : Counted 16). r ≡ counted (cmac w s) (cmac_cost (length s)))
 cmac_of_determined w s = once
 
-pub mac_of_determined : (w : List (List ℕ)) (s : List ℕ) → Determined (λ (r : Truncated). r ≡ truncated (even_places (cmac w s)) (cmac_cost (length s)))
+pub mac_of_determined : (w : List (List ℕ)) (s : List ℕ) → Determined (λ (r : Counted 8). r ≡ counted (even_places (cmac w s)) (cmac_cost (length s)))
 mac_of_determined w s = once
 
 -- ---- truth
@@ -257,35 +254,35 @@ pub crc_of_determined : (s : List ℕ) → Determined (λ (r : List ℕ). r ≡ 
 crc_of_determined s = once
 
 -- ---- sdm
-pub picc_data_determined : (key : List ℕ) (t : Tap) (padding : List ℕ) → Determined (λ (r : Ciphered). r ≡ ciphered (picc_data key t padding) picc_cost)
+pub picc_data_determined : (key : List ℕ) (t : Tap) (padding : List ℕ) → Determined (λ (r : Counted 16). r ≡ counted (picc_data key t padding) picc_cost)
 picc_data_determined key t padding = once
 
 pub tap_encrypt_determined : (key : List ℕ) (counter : ℕ) (text : List ℕ) → DeterminedIn (λ (r : Hidden) (new : List ℕ). Hides key counter text r new)
 tap_encrypt_determined key counter text = hides_once
 
-pub tap_iv_determined : (key : List ℕ) (counter : ℕ) → Determined (λ (r : Ciphered). r ≡ ciphered (tap_iv key counter) tap_iv_cost)
+pub tap_iv_determined : (key : List ℕ) (counter : ℕ) → Determined (λ (r : Counted 16). r ≡ counted (tap_iv key counter) tap_iv_cost)
 tap_iv_determined key counter = once
 
-pub tap_enc_key_determined : (key : List ℕ) (t : Tap) → Determined (λ (r : Ciphered). r ≡ ciphered (tap_enc_key key t) tap_key_cost)
+pub tap_enc_key_determined : (key : List ℕ) (t : Tap) → Determined (λ (r : Counted 16). r ≡ counted (tap_enc_key key t) tap_key_cost)
 tap_enc_key_determined key t = once
 
-pub tap_mac_key_determined : (key : List ℕ) (t : Tap) → Determined (λ (r : Ciphered). r ≡ ciphered (tap_mac_key key t) tap_key_cost)
+pub tap_mac_key_determined : (key : List ℕ) (t : Tap) → Determined (λ (r : Counted 16). r ≡ counted (tap_mac_key key t) tap_key_cost)
 tap_mac_key_determined key t = once
 
-pub tap_mac_determined : (key text : List ℕ) → Determined (λ (r : Truncated). r ≡ truncated (mac key text) (cmac_cost (length text)))
+pub tap_mac_determined : (key text : List ℕ) → Determined (λ (r : Counted 8). r ≡ counted (mac key text) (cmac_cost (length text)))
 tap_mac_determined key text = once
 
 -- ---- authentication
-pub part_one_determined : (kx b : List ℕ) → Determined (λ (r : Ciphered). r ≡ ciphered (enciphered kx b) part_one_cost)
+pub part_one_determined : (kx b : List ℕ) → Determined (λ (r : Counted 16). r ≡ counted (enciphered kx b) part_one_cost)
 part_one_determined kx b = once
 
 pub check_part_two_determined : (kx b x : List ℕ) → Determined (λ (r : PartTwo). r ≡ part_two kx b x)
 check_part_two_determined kx b x = once
 
-pub first_reply_determined : (kx ti a cap : List ℕ) → Determined (λ (r : Pair). r ≡ paired (first_reply kx ti a cap) first_reply_cost)
+pub first_reply_determined : (kx ti a cap : List ℕ) → Determined (λ (r : Counted 32). r ≡ counted (first_reply kx ti a cap) first_reply_cost)
 first_reply_determined kx ti a cap = once
 
-pub next_reply_determined : (kx a : List ℕ) → Determined (λ (r : Ciphered). r ≡ ciphered (next_reply kx a) next_reply_cost)
+pub next_reply_determined : (kx a : List ℕ) → Determined (λ (r : Counted 16). r ≡ counted (next_reply kx a) next_reply_cost)
 next_reply_determined kx a = once
 
 -- ---- session_keys
@@ -301,20 +298,20 @@ pub unpad_determined : (s : List ℕ)
 unpad_determined s r q p h = once r q p.0 h.0
 
 -- ---- messaging
-pub command_iv_determined : (s : Session) → Determined (λ (r : Ciphered). r ≡ ciphered (command_iv s) vector_cost)
+pub command_iv_determined : (s : Session) → Determined (λ (r : Counted 16). r ≡ counted (command_iv s) vector_cost)
 command_iv_determined s = once
 
-pub command_vector_determined : (w : List (List ℕ)) (s : Session) → Determined (λ (r : Ciphered). r ≡ ciphered (command_vector w s) vector_cost)
+pub command_vector_determined : (w : List (List ℕ)) (s : Session) → Determined (λ (r : Counted 16). r ≡ counted (command_vector w s) vector_cost)
 command_vector_determined w s = once
 
 pub message_mac_determined : (s : Session) (first : ℕ) (body : List ℕ)
-    → Determined (λ (r : Truncated). r ≡ truncated (message_mac s first (take 293 body)) (message_mac_cost (length (take 293 body))))
+    → Determined (λ (r : Counted 8). r ≡ counted (message_mac s first (take 293 body)) (message_mac_cost (length (take 293 body))))
 message_mac_determined s first body = once
 
-pub reply_iv_determined : (s : Session) → Determined (λ (r : Ciphered). r ≡ ciphered (reply_iv s) vector_cost)
+pub reply_iv_determined : (s : Session) → Determined (λ (r : Counted 16). r ≡ counted (reply_iv s) vector_cost)
 reply_iv_determined s = once
 
-pub reply_vector_determined : (w : List (List ℕ)) (s : Session) → Determined (λ (r : Ciphered). r ≡ ciphered (reply_vector w s) vector_cost)
+pub reply_vector_determined : (w : List (List ℕ)) (s : Session) → Determined (λ (r : Counted 16). r ≡ counted (reply_vector w s) vector_cost)
 reply_vector_determined w s = once
 
 -- ---- closing
@@ -352,5 +349,5 @@ pub encode_determined : (s room : List ℕ) → Determined (λ (new : List ℕ).
 encode_determined s room = once
 
 -- ---- mirror
-pub lay_determined : (file : List ℕ) (r : Reading) (m : Mirror) → SpansFit r → Determined (λ (f : Overlaid). f ≡ overlaid (dynamic_data file r m) (dynamic_cost r))
+pub lay_determined : (file : List ℕ) (r : Reading) (m : Mirror) → SpansFit r → Determined (λ (f : Counted 256). f ≡ counted (dynamic_data file r m) (dynamic_cost r))
 lay_determined file r m asked = once

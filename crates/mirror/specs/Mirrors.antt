@@ -10,7 +10,6 @@ use Rattle.sdm.specs.Tap.{picc_data, picc_cost, tap_enc_key, tap_mac_key, tap_ke
 use Rattle.spans.specs.declared.Span.{Span}
 use Rattle.spans.specs.declared.Reading.{Reading}
 use Rattle.mirror.specs.declared.Mirror.{Mirror}
-use Rattle.mirror.specs.declared.Overlaid.{Overlaid}
 
 -- 9.3.3, EncodeASCII: bytes as capital hexadecimal over the file, where the mirror is present
 unfoldable pub mirror_at : Span → List ℕ → List ℕ → List ℕ
@@ -69,6 +68,3 @@ mac_mirror_cost r = pick r.mac.present (tap_key_cost + cmac_cost (r.mac.start - 
 
 unfoldable pub dynamic_cost : Reading → ℕ
 dynamic_cost r = picc_mirror_cost r + enc_mirror_cost r + mac_mirror_cost r
-
-abbrev pub overlaid : List ℕ → ℕ → Overlaid
-overlaid f n = record { file = f; cost = n }

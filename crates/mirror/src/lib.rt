@@ -4,13 +4,14 @@
 ghost use Rattle.std.specs.Prelude.{true, ◌≡◌, ◌+◌, ◌-◌, ◌*◌, ◌/◌, ◌%◌, ◌≤◌, length};
 ghost use Rattle.cbc.specs.Cbc.{cbc_out};
 ghost use Rattle.key_expansion.specs.Keys.{key_expansion};
-ghost use Rattle.cmac.specs.Cmac.{mac, cmac_cost, truncated};
+ghost use Rattle.aes.specs.Block.{counted};
+ghost use Rattle.cmac.specs.Cmac.{mac, cmac_cost};
 ghost use Rattle.sdm.specs.Tap.{tap_iv, hidden_cost};
 ghost use Rattle.spans.specs.Spans.{end_of, SpansFit};
 ghost use Rattle.mirror.specs.Mirrors.{mirror_at, stretch, high_first, with_uid, with_counter, with_picc, enc_data, with_enc, with_mac, dynamic_data};
-ghost use Rattle.mirror.specs.Mirrors.{picc_mirror_cost, enc_mirror_cost, mac_mirror_cost, dynamic_cost, overlaid};
+ghost use Rattle.mirror.specs.Mirrors.{picc_mirror_cost, enc_mirror_cost, mac_mirror_cost, dynamic_cost};
 
-use cmac::Truncated;
+use aes::Counted;
 use sdm::Tap;
 use spans::{Reading, Span};
 
@@ -21,13 +22,6 @@ pub struct Mirror {
     pub meta_key: [u8; 16],
     pub file_key: [u8; 16],
     pub padding: [u8; 12],
-}
-
-// The file with mirrors over it, and how many blocks were computed for them.
-#[derive(Clone, Copy)]
-pub struct Overlaid {
-    pub file: [u8; 256],
-    pub cost: usize,
 }
 
 // Bytes as capital hexadecimal over the file, at a span that is present and inside it.
@@ -57,9 +51,9 @@ fn high_first(counter: u32) -> [u8; 3]
 }
 
 // UID, counter and PICCData.
-fn lay_picc(file: [u8; 256], r: Reading, m: Mirror) -> Overlaid
+fn lay_picc(file: [u8; 256], r: Reading, m: Mirror) -> Counted<256>
     requires { SpansFit r }
-    ensures { result ≡ overlaid (with_picc r m (with_counter r m (with_uid r m file))) (picc_mirror_cost r) }
+    ensures { result ≡ counted (with_picc r m (with_counter r m (with_uid r m file))) (picc_mirror_cost r) }
 {
     let uid = m.tap.uid;
     let f = lay_hex(file, r.uid, &uid);
@@ -70,31 +64,37 @@ fn lay_picc(file: [u8; 256], r: Reading, m: Mirror) -> Overlaid
         let padding = m.padding;
         let p = sdm::picc_data(key, m.tap, padding);
         let bytes = p.bytes;
-        return Overlaid {
-            file: lay_hex(g, r.picc, &bytes),
+        return Counted {
+            bytes: lay_hex(g, r.picc, &bytes),
             cost: p.cost,
         };
     }
-    Overlaid { file: g, cost: 0 }
+    Counted { bytes: g, cost: 0 }
 }
 
 // A text of whole blocks, encrypted, over the file.
-fn lay_hidden(file: [u8; 256], s: Span, key: [u8; 16], counter: u32, text: &mut [u8]) -> Overlaid
+fn lay_hidden(
+    file: [u8; 256],
+    s: Span,
+    key: [u8; 16],
+    counter: u32,
+    text: &mut [u8],
+) -> Counted<256>
     requires text_len { length text.old % 16 ≡ 0 }
     requires text_bound { s.start + length text.old * 2 ≤ 256 }
-    ensures { result ≡ overlaid (mirror_at s (cbc_out (key_expansion key) (tap_iv key counter) text.old) file) (hidden_cost (length text.old)) }
+    ensures { result ≡ counted (mirror_at s (cbc_out (key_expansion key) (tap_iv key counter) text.old) file) (hidden_cost (length text.old)) }
 {
     let h = sdm::tap_encrypt(key, counter, text);
-    Overlaid {
-        file: lay_hex(file, s, text),
+    Counted {
+        bytes: lay_hex(file, s, text),
         cost: h.cost,
     }
 }
 
 // The first half of the ENC span as stored, as far as it is whole blocks, encrypted, over the span.
-fn hide(stored: [u8; 256], file: [u8; 256], s: Span, key: [u8; 16], counter: u32) -> Overlaid
+fn hide(stored: [u8; 256], file: [u8; 256], s: Span, key: [u8; 16], counter: u32) -> Counted<256>
     requires { end_of s ≤ 256 }
-    ensures { result ≡ overlaid (mirror_at s (enc_data key counter s stored) file) (hidden_cost (s.size / 2)) }
+    ensures { result ≡ counted (mirror_at s (enc_data key counter s stored) file) (hidden_cost (s.size / 2)) }
 {
     let at = s.start as usize;
     let e = at + (s.size / 32 * 16) as usize;
@@ -103,28 +103,31 @@ fn hide(stored: [u8; 256], file: [u8; 256], s: Span, key: [u8; 16], counter: u32
 }
 
 // ENC, under its key of the tap.
-fn lay_enc(stored: [u8; 256], file: [u8; 256], r: Reading, m: Mirror) -> Overlaid
+fn lay_enc(stored: [u8; 256], file: [u8; 256], r: Reading, m: Mirror) -> Counted<256>
     requires { SpansFit r }
-    ensures { result ≡ overlaid (with_enc r m stored file) (enc_mirror_cost r) }
+    ensures { result ≡ counted (with_enc r m stored file) (enc_mirror_cost r) }
 {
     if r.enc.present {
         let key = m.file_key;
         let k = sdm::tap_enc_key(key, m.tap);
         let enc = k.bytes;
         let h = hide(stored, file, r.enc, enc, m.tap.counter);
-        let f = h.file;
-        return Overlaid {
-            file: f,
+        let f = h.bytes;
+        return Counted {
+            bytes: f,
             cost: k.cost + h.cost,
         };
     }
-    Overlaid { file, cost: 0 }
+    Counted {
+        bytes: file,
+        cost: 0,
+    }
 }
 
 // The MAC of the file from a to before e, of nothing where a lies behind e.
-fn mac_between(file: [u8; 256], a: usize, e: usize, key: [u8; 16]) -> Truncated
+fn mac_between(file: [u8; 256], a: usize, e: usize, key: [u8; 16]) -> Counted<8>
     requires { e ≤ 256 }
-    ensures { result ≡ truncated (mac key (stretch a e file)) (cmac_cost (e - a)) }
+    ensures { result ≡ counted (mac key (stretch a e file)) (cmac_cost (e - a)) }
 {
     if a <= e {
         return sdm::tap_mac(key, &file[a..e]);
@@ -133,9 +136,9 @@ fn mac_between(file: [u8; 256], a: usize, e: usize, key: [u8; 16]) -> Truncated
 }
 
 // The MAC of the mirrored text from an input start to before the MAC, under its key of the tap.
-fn lay_mac(file: [u8; 256], r: Reading, m: Mirror) -> Overlaid
+fn lay_mac(file: [u8; 256], r: Reading, m: Mirror) -> Counted<256>
     requires { SpansFit r }
-    ensures { result ≡ overlaid (with_mac r m file) (mac_mirror_cost r) }
+    ensures { result ≡ counted (with_mac r m file) (mac_mirror_cost r) }
 {
     if r.mac.present {
         let key = m.file_key;
@@ -144,27 +147,30 @@ fn lay_mac(file: [u8; 256], r: Reading, m: Mirror) -> Overlaid
         let input = r.settings.places.input;
         let t = mac_between(file, input as usize, r.mac.start as usize, mac);
         let bytes = t.bytes;
-        return Overlaid {
-            file: lay_hex(file, r.mac, &bytes),
+        return Counted {
+            bytes: lay_hex(file, r.mac, &bytes),
             cost: k.cost + t.cost,
         };
     }
-    Overlaid { file, cost: 0 }
+    Counted {
+        bytes: file,
+        cost: 0,
+    }
 }
 
 // Every mirror that the settings name, over file 2; each key only where it is needed.
-pub fn lay(file: [u8; 256], r: Reading, m: Mirror) -> Overlaid
+pub fn lay(file: [u8; 256], r: Reading, m: Mirror) -> Counted<256>
     requires { SpansFit r }
-    ensures { result ≡ overlaid (dynamic_data file r m) (dynamic_cost r) }
+    ensures { result ≡ counted (dynamic_data file r m) (dynamic_cost r) }
 {
     let p = lay_picc(file, r, m);
-    let f = p.file;
+    let f = p.bytes;
     let e = lay_enc(file, f, r, m);
-    let g = e.file;
+    let g = e.bytes;
     let c = lay_mac(g, r, m);
-    let h = c.file;
-    Overlaid {
-        file: h,
+    let h = c.bytes;
+    Counted {
+        bytes: h,
         cost: p.cost + e.cost + c.cost,
     }
 }

@@ -2,13 +2,12 @@
 ghost use Rattle.std.specs.Prelude.{◌≡◌, ◌∷◌, ◌++◌, ◌-◌, ◌≤◌, length, take, replicate};
 ghost use Rattle.base.specs.Decide.{pick};
 ghost use Rattle.base.specs.Bytes.{low};
-ghost use Rattle.aes.specs.Block.{cipher, ciphered, block_cost};
-ghost use Rattle.cmac.specs.Cmac.{mac, cmac_cost, truncated};
+ghost use Rattle.aes.specs.Block.{cipher, counted, block_cost};
+ghost use Rattle.cmac.specs.Cmac.{mac, cmac_cost};
 ghost use Rattle.sdm.specs.Tap.{mirrored, Mirrors, picc_tag, picc_data, picc_cost, tap_key, tap_enc_key, tap_mac_key, tap_key_cost, tap_iv, tap_iv_cost, Hides};
 
 use crate::{Hidden, Tap};
-use aes::Ciphered;
-use cmac::Truncated;
+use aes::Counted;
 
 // A number where something is there, and 0 where not.
 fn where_there(there: bool, n: usize) -> usize
@@ -92,8 +91,8 @@ fn picc_text(tag: u8, b: [u8; 10], n: usize, padding: [u8; 15]) -> [u8; 16]
 }
 
 // PICCData.
-pub fn picc_data(key: [u8; 16], t: Tap, padding: [u8; 12]) -> Ciphered
-    ensures { result ≡ ciphered (picc_data key t padding) picc_cost }
+pub fn picc_data(key: [u8; 16], t: Tap, padding: [u8; 12]) -> Counted<16>
+    ensures { result ≡ counted (picc_data key t padding) picc_cost }
 {
     let uid = t.uid;
     let m = mirror_of(uid, t.counter, t.names, t.counts);
@@ -115,8 +114,8 @@ fn vector(l: u8, m: u8, b: [u8; 10]) -> [u8; 16]
 }
 
 // A key of a tap, for a label.
-fn tap_key(key: [u8; 16], l: u8, m: u8, t: Tap) -> Ciphered
-    ensures { result ≡ ciphered (tap_key key l m t) tap_key_cost }
+fn tap_key(key: [u8; 16], l: u8, m: u8, t: Tap) -> Counted<16>
+    ensures { result ≡ counted (tap_key key l m t) tap_key_cost }
 {
     let w = key_expansion::expand(key);
     let uid = t.uid;
@@ -127,22 +126,22 @@ fn tap_key(key: [u8; 16], l: u8, m: u8, t: Tap) -> Ciphered
 }
 
 // The key of ENC, from the key of SDMFileRead.
-pub fn tap_enc_key(key: [u8; 16], t: Tap) -> Ciphered
-    ensures { result ≡ ciphered (tap_enc_key key t) tap_key_cost }
+pub fn tap_enc_key(key: [u8; 16], t: Tap) -> Counted<16>
+    ensures { result ≡ counted (tap_enc_key key t) tap_key_cost }
 {
     tap_key(key, 0xC3, 0x3C, t)
 }
 
 // The key of the MAC.
-pub fn tap_mac_key(key: [u8; 16], t: Tap) -> Ciphered
-    ensures { result ≡ ciphered (tap_mac_key key t) tap_key_cost }
+pub fn tap_mac_key(key: [u8; 16], t: Tap) -> Counted<16>
+    ensures { result ≡ counted (tap_mac_key key t) tap_key_cost }
 {
     tap_key(key, 0x3C, 0xC3, t)
 }
 
 // The vector of ENC, under round keys.
-fn tap_vector(w: &[[u8; 16]; 11], counter: u32) -> Ciphered
-    ensures { result ≡ ciphered (cipher w.now (low 3 counter ++ replicate 13 0)) block_cost }
+fn tap_vector(w: &[[u8; 16]; 11], counter: u32) -> Counted<16>
+    ensures { result ≡ counted (cipher w.now (low 3 counter ++ replicate 13 0)) block_cost }
 {
     let c = three(counter);
     let b = [c[0], c[1], c[2], 0, 0, 0, 0, 0, 0, 0, 0, 0, 0, 0, 0, 0];
@@ -150,8 +149,8 @@ fn tap_vector(w: &[[u8; 16]; 11], counter: u32) -> Ciphered
 }
 
 // The vector of ENC.
-pub fn tap_iv(key: [u8; 16], counter: u32) -> Ciphered
-    ensures { result ≡ ciphered (tap_iv key counter) tap_iv_cost }
+pub fn tap_iv(key: [u8; 16], counter: u32) -> Counted<16>
+    ensures { result ≡ counted (tap_iv key counter) tap_iv_cost }
 {
     let w = key_expansion::expand(key);
     tap_vector(&w, counter)
@@ -178,8 +177,8 @@ pub fn tap_encrypt(key: [u8; 16], counter: u32, text: &mut [u8]) -> Hidden
 }
 
 // The eight bytes of MAC of a text.
-pub fn tap_mac(key: [u8; 16], text: &[u8]) -> Truncated
-    ensures { result ≡ truncated (mac key text.now) (cmac_cost (length text.now)) }
+pub fn tap_mac(key: [u8; 16], text: &[u8]) -> Counted<8>
+    ensures { result ≡ counted (mac key text.now) (cmac_cost (length text.now)) }
 {
     let w = key_expansion::expand(key);
     cmac::mac_of(&w, text)

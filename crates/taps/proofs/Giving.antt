@@ -11,8 +11,9 @@ use Rattle.base.specs.Decide.{pick}
 use Rattle.base.specs.Status.{operation_ok, iso_normal}
 use Rattle.spans.specs.declared.Reading.{Reading}
 use Rattle.spans.specs.Spans.{SpansFit}
-use Rattle.mirror.specs.declared.Overlaid.{Overlaid}
-use Rattle.mirror.specs.Mirrors.{dynamic_cost, overlaid}
+use Rattle.aes.specs.Block.{counted}
+use Rattle.aes.specs.declared.Counted.{Counted}
+use Rattle.mirror.specs.Mirrors.{dynamic_cost}
 use Rattle.mirror.proofs.Costs.{dynamic_few}
 use Rattle.state.specs.declared.Tag.{Tag}
 use Rattle.state.specs.declared.Tapping.{Tapping}
@@ -26,12 +27,12 @@ use Rattle.taps.specs.Taps.{read_status, tap_of, tap_text, tap_status, tap_part,
 use Rattle.taps.proofs.Going.{pick_true, pick_false}
 
 module _ (t : Tag) (r : Reading) (iso : Bool) (at n : ℕ) where
-  pub part-given_of : (accepting : ℕ) (x : Overlaid) (p : Excerpt) → accepting ≡ pick iso iso_normal operation_ok → x ≡ overlaid (tap_text t r) (dynamic_cost r)
-      → length x.file ≡ 256 → p ≡ part_of x.file at n → given_for x.cost t accepting (take (min p.length 256) p.bytes) ≡ tap_part t r iso at n
+  pub part-given_of : (accepting : ℕ) (x : Counted 256) (p : Excerpt) → accepting ≡ pick iso iso_normal operation_ok → x ≡ counted (tap_text t r) (dynamic_cost r)
+      → length x.bytes ≡ 256 → p ≡ part_of x.bytes at n → given_for x.cost t accepting (take (min p.length 256) p.bytes) ≡ tap_part t r iso at n
   unfolding tap_part
   part-given_of accepting x p a e l h =
-      ap₂ (given_for x.cost t) a (part-given x.file at n p (omega arith) h)
-      ∙ ap (λ y. given_for y.cost t (pick iso iso_normal operation_ok) (take n (drop at y.file))) e
+      ap₂ (given_for x.cost t) a (part-given x.bytes at n p (omega arith) h)
+      ∙ ap (λ y. given_for y.cost t (pick iso iso_normal operation_ok) (take n (drop at y.bytes))) e
 
   module _ (random : List ℕ) (status : ℕ) (s : status ≡ read_status t.tap r iso) where
     pub reads_on : (now : Tapping) → status ≡ 0 → now ≡ tap_of t.tap iso random → tap_part (tapped t now) r iso at n ≡ tap_read t r iso at n random

@@ -4,12 +4,14 @@ ghost use Rattle.base.specs.Decide.{pick};
 ghost use Rattle.base.specs.Status.{operation_ok, iso_normal};
 ghost use Rattle.state.specs.State.{file_of};
 ghost use Rattle.spans.specs.Spans.{SpansFit};
-ghost use Rattle.mirror.specs.Mirrors.{dynamic_cost, overlaid};
+ghost use Rattle.aes.specs.Block.{counted as with_cost};
+ghost use Rattle.mirror.specs.Mirrors.{dynamic_cost};
 ghost use Rattle.replies.specs.Answer.{Gives};
 ghost use Rattle.taps.specs.Taps.{goes_on, start_status, read_status, counted, started, tap_of, mirror_for, tap_text, tap_status, tap_part, tap_read};
 
+use aes::Counted;
 use fields::Head;
-use mirror::{Mirror, Overlaid};
+use mirror::Mirror;
 use replies::Done;
 use sdm::Tap;
 use spans::Reading;
@@ -124,9 +126,9 @@ fn second(f: Files) -> [u8; 256]
 }
 
 // File 2 as a tap shows it, while it runs.
-fn tap_text(tag: Tag, r: Reading) -> Overlaid
+fn tap_text(tag: Tag, r: Reading) -> Counted<256>
     requires { SpansFit r }
-    ensures { result ≡ overlaid (tap_text tag r) (dynamic_cost r) }
+    ensures { result ≡ with_cost (tap_text tag r) (dynamic_cost r) }
 {
     mirror::lay(second(tag.files), r, mirror_for(tag, r.settings.head))
 }
@@ -151,7 +153,7 @@ fn give_part(tag: Tag, r: Reading, iso: bool, at: usize, count: usize) -> Done
     ensures { Gives (tap_part tag r iso at count) result }
 {
     let overlaid = tap_text(tag, r);
-    let text = overlaid.file;
+    let text = overlaid.bytes;
     let p = file_parts::cut(&text, at, count);
     let bytes = p.bytes;
     replies::give(tag, accepting(iso), bytes, p.length, overlaid.cost)

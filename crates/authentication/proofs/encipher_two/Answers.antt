@@ -3,7 +3,8 @@ use mathlib.Core.Path.{◌≡◌, refl, ap, ap₂, ◌∙◌}
 use lib.ListN.{length}
 use Rattle.cbc.specs.Cbc.{cbc_out, cbc_cost}
 use Rattle.cbc.proofs.Turns.{chains_whole, chains_cost}
-use Rattle.authentication.specs.Authentication.{enciphered, paired}
+use Rattle.aes.specs.Block.{counted}
+use Rattle.authentication.specs.Authentication.{enciphered}
 use borrow.Author.Rules.{rules}
 use borrow.Author.Rules.{rules}
 use Rattle.authentication.proofs.encipher_two.Goals as goal
@@ -14,4 +15,4 @@ returns c =
     let x = c.args.x in
     let l : length x ≡ 32 = search rules in
     let e = c.cbc_encrypt-c.ensures in
-    ap₂ paired (chains_whole e (rw l refl) ∙ ap (λ w. cbc_out w _ x) c.expand-w.ensures) (chains_cost e (rw l refl) ∙ ap cbc_cost l)
+    ap₂ counted (chains_whole e (rw l refl) ∙ ap (λ w. cbc_out w _ x) c.expand-w.ensures) (chains_cost e (rw l refl) ∙ ap cbc_cost l)

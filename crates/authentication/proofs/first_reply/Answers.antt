@@ -7,7 +7,8 @@ use Rattle.base.proofs.Bytes.{none}
 use Rattle.base.proofs.Pieces.{also, full}
 use Prim.Native.Nat.{◌+◌}
 use Rattle.cbc.specs.Cbc.{cbc_cost}
-use Rattle.authentication.specs.Authentication.{zeros, enciphered, first_reply, paired}
+use Rattle.aes.specs.Block.{counted}
+use Rattle.authentication.specs.Authentication.{zeros, enciphered, first_reply}
 use borrow.Author.Rules.{rules}
 use borrow.Author.Rules.{rules}
 use Rattle.authentication.proofs.first_reply.Goals as goal
@@ -19,7 +20,7 @@ returns c =
     let l : length a.ti ≡ 4 = search rules in
     let m : length a.cap ≡ 6 = search rules in
     let n : length c.turn-t.result ≡ 16 = search rules in
-    c.encipher_two.ensures ∙ ap (λ x. paired (enciphered a.kx x) (cbc_cost 32))
+    c.encipher_two.ensures ∙ ap (λ x. counted (enciphered a.kx x) (cbc_cost 32))
     (full (also (also (also (also (none _) a.ti 4 (omega arith) (omega arith) c.put.ensures)
     c.turn-t.result 20 (omega arith) (omega arith)
     c.put-2.ensures) (zeros 6) 26 (omega arith) (omega arith) c.put-3.ensures) a.cap 32 (omega arith) (omega arith)

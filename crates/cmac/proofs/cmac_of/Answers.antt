@@ -5,7 +5,7 @@ use native.Mathlib.Omega.{arith}
 use lib.ListN.{length, take, drop, length-drop}
 use lib.Seq.{drop-drop, take_all}
 use Rattle.cbc.proofs.Turns.{block_inside}
-use Rattle.aes.specs.Block.{cipher, xor_block, ciphered}
+use Rattle.aes.specs.Block.{cipher, xor_block, counted}
 use Rattle.cmac.specs.Cmac.{last_block, blocks_of, cmac_cost}
 use Rattle.cmac.proofs.Macs.{from_more, from_last, from_start, blocks-turn, blocks_one}
 use borrow.Author.Rules.{rules}
@@ -51,7 +51,7 @@ returns c =
     let s = a.s.now in
     let g = c.encrypt_with-end.ensures in
     let h = c.last_block-last.ensures in
-    ap₂ ciphered
+    ap₂ counted
     (g.standard (search rules) ∙ rw (c.xor_block-2.ensures, h)
     (ap (λ l'. cipher a.w.now (xor_block (last_block a.w.now l') l.v))
     (take_all (length s - l.at) (drop l.at s) (simp length-drop (omega arith)))

@@ -4,7 +4,7 @@ use native.Mathlib.Omega.{arith}
 use borrow.Author.Tests.{eq-eqb, ne_eqb}
 use lib.ListN.{length}
 use lib.Seq.{take_all}
-use Rattle.aes.specs.Block.{ciphered}
+use Rattle.aes.specs.Block.{counted}
 use Rattle.cbc.proofs.Turns.{block_inside}
 use Rattle.cmac.specs.Cmac.{subkey1, subkey2, last_block}
 use borrow.Author.Rules.{rules}
@@ -17,7 +17,7 @@ returns-then-s-eq16 c =
     let s = c.args.s.now in
     let h : length s ≡ 16 = c.if-s-eq16.true in
     let w = c.encrypt_with-zero.ensures in
-    ap₂ ciphered (c.xor_block.ensures ∙ rw (
+    ap₂ counted (c.xor_block.ensures ∙ rw (
       c.load.ensures,
       block_inside s 0 (omega arith),
       c.double_block-k1.ensures,
@@ -31,7 +31,7 @@ unfolding last_block subkey1 subkey2
 returns c =
     let s = c.args.s.now in
     let w = c.encrypt_with-zero.ensures in
-    ap₂ ciphered (c.xor_block-2.ensures ∙ rw (
+    ap₂ counted (c.xor_block-2.ensures ∙ rw (
       c.padded.ensures,
       c.double_block.ensures,
       c.double_block-k1.ensures,

@@ -1,7 +1,8 @@
 use mathlib.Core.Path.{ap, ap₂, ◌∙◌}
 use native.Mathlib.Omega.{arith}
 use Prim.Native.Nat.{◌+◌}
-use Rattle.mirror.specs.Mirrors.{with_enc, with_mac, dynamic_data, dynamic_cost, overlaid}
+use Rattle.aes.specs.Block.{counted}
+use Rattle.mirror.specs.Mirrors.{with_enc, with_mac, dynamic_data, dynamic_cost}
 use Rattle.mirror.proofs.Costs.{picc_mirror_few, enc_mirror_few, mac_mirror_few}
 use Rattle.mirror.proofs.lay.Goals as goal
 
@@ -29,7 +30,7 @@ returns c =
     let p = c.lay_picc-p.ensures in
     let e = c.lay_enc-e.ensures in
     let m = c.lay_mac-c.ensures in
-    ap₂ overlaid
-    (ap (λ x. x.file) m
-    ∙ ap (with_mac a.r a.m) (ap (λ x. x.file) e ∙ ap (λ x. with_enc a.r a.m a.file x.file) p))
+    ap₂ counted
+    (ap (λ x. x.bytes) m
+    ∙ ap (with_mac a.r a.m) (ap (λ x. x.bytes) e ∙ ap (λ x. with_enc a.r a.m a.file x.bytes) p))
     (ap₂ ◌+◌ (ap₂ ◌+◌ (ap (λ x. x.cost) p) (ap (λ x. x.cost) e)) (ap (λ x. x.cost) m))

@@ -3,9 +3,10 @@ use native.Mathlib.Omega.{arith}
 use Prim.Native.Nat.{◌+◌, ◌-◌}
 use lib.ListN.{length}
 use Rattle.base.specs.Decide.{pick}
+use Rattle.aes.specs.Block.{counted}
 use Rattle.cmac.specs.Cmac.{mac, cmac_cost}
 use Rattle.sdm.specs.Tap.{tap_key_cost}
-use Rattle.mirror.specs.Mirrors.{mirror_at, stretch, with_mac, mac_mirror_cost, overlaid}
+use Rattle.mirror.specs.Mirrors.{mirror_at, stretch, with_mac, mac_mirror_cost}
 use Rattle.mirror.proofs.Inside.{mac-inside}
 use Rattle.mirror.proofs.Laying.{mirror_off}
 use Rattle.mirror.proofs.Costs.{key_few, tap-mac_few}
@@ -33,7 +34,7 @@ returns-then-r c =
     let i = a.r.settings.places.input in
     let k = c.tap_mac_key-k.ensures in
     let t = c.mac_between-t.ensures in
-    ap₂ overlaid
+    ap₂ counted
     (c.lay_hex.ensures
     ∙ ap (λ x. mirror_at a.r.mac x a.file)
     (ap (λ x. x.bytes) t ∙ ap (λ x. mac x.bytes (stretch i a.r.mac.start a.file)) k))
@@ -44,5 +45,5 @@ pub returns : goal.returns
 unfolding with_mac mac_mirror_cost
 returns c =
     let a = c.args in
-    ap₂ overlaid (sym (mirror_off a.r.mac _ a.file c.if-r.false))
+    ap₂ counted (sym (mirror_off a.r.mac _ a.file c.if-r.false))
     (sym (ap (λ b. pick b (tap_key_cost + cmac_cost (a.r.mac.start - a.r.settings.places.input)) 0) c.if-r.false))

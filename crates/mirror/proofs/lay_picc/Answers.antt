@@ -2,8 +2,9 @@ use mathlib.Core.Path.{◌≡◌, sym, ap, ap₂, ◌∙◌}
 use native.Mathlib.Omega.{arith}
 use lib.ListN.{length}
 use Rattle.base.specs.Decide.{pick}
+use Rattle.aes.specs.Block.{counted}
 use Rattle.sdm.specs.Tap.{picc_cost}
-use Rattle.mirror.specs.Mirrors.{mirror_at, with_uid, with_counter, with_picc, picc_mirror_cost, overlaid}
+use Rattle.mirror.specs.Mirrors.{mirror_at, with_uid, with_counter, with_picc, picc_mirror_cost}
 use Rattle.mirror.proofs.Inside.{uid-inside, counter-inside, picc-inside}
 use Rattle.mirror.proofs.Laying.{mirror_off}
 use borrow.Author.Rules.{rules}
@@ -29,7 +30,7 @@ unfolding with_uid with_counter with_picc picc_mirror_cost
 returns-then-r c =
     let a = c.args in
     let p = c.picc_data-p.ensures in
-    ap₂ overlaid
+    ap₂ counted
     (c.lay_hex.ensures ∙ ap₂ (mirror_at a.r.picc) (ap (λ x. x.bytes) p)
     (c.lay_hex-g.ensures ∙ ap₂ (mirror_at a.r.counter) c.high_first-c.ensures c.lay_hex-f.ensures))
     (ap (λ x. x.cost) p ∙ sym (ap (λ t. pick t picc_cost 0) c.if-r.true))
@@ -38,7 +39,7 @@ pub returns : goal.returns
 unfolding with_uid with_counter with_picc picc_mirror_cost
 returns c =
     let a = c.args in
-    ap₂ overlaid
+    ap₂ counted
     (c.lay_hex-g.ensures
     ∙ ap₂ (mirror_at a.r.counter) c.high_first-c.ensures c.lay_hex-f.ensures
     ∙ sym (mirror_off a.r.picc _ _ c.if-r.false))

@@ -2,7 +2,8 @@
 use Rattle.std.proofs.Common.{◌≡◌, refl, ap, ap₂, ◌∙◌, ◌+◌, ◌≤◌, ◌∷◌, length, take, replicate, rules, List, ℕ}
 use Rattle.std.proofs.lemmas.List.{length-append, length-take}
 use Rattle.base.specs.Bytes.{low}
-use Rattle.cmac.specs.Cmac.{mac, cmac, even_places, cmac_cost, truncated}
+use Rattle.aes.specs.Block.{counted}
+use Rattle.cmac.specs.Cmac.{mac, cmac, even_places, cmac_cost}
 use Rattle.key_expansion.specs.Keys.{key_expansion}
 use Rattle.messaging.specs.Protect.{message_mac, message_mac_cost}
 use Rattle.messaging.proofs.Laid.{three_laid, at_most}
@@ -21,4 +22,4 @@ returns c =
     let e = three_laid p a.s.ti d (replicate 300 0) refl l r in
     let k : length (take (7 + length d) _) ≡ 7 + length d = ap length e ∙ simp length-append (omega arith) in
     c.mac_of.ensures ∙ rw (c.expand.ensures, c.copy_from_slice-3.ensures.after, c.copy_from_slice-2.ensures.after, c.copy_from_slice.ensures.after, c.to_le_bytes.ensures, b)
-    (ap₂ (λ t n. truncated (even_places (cmac (key_expansion a.s.mac) t)) (cmac_cost n)) e k)
+    (ap₂ (λ t n. counted (even_places (cmac (key_expansion a.s.mac) t)) (cmac_cost n)) e k)

@@ -1,7 +1,7 @@
 -- `sdm::codes::tap_key` meets its contract: the CMAC of sixteen bytes.
 use mathlib.Core.Path.{◌≡◌, refl, ap, ap₂, ◌∙◌}
 use lib.ListN.{length}
-use Rattle.aes.specs.Block.{ciphered}
+use Rattle.aes.specs.Block.{counted}
 use Rattle.cmac.specs.Cmac.{cmac_cost}
 use Rattle.sdm.specs.Tap.{tap_key, tap_vector}
 use borrow.Author.Rules.{rules}
@@ -13,4 +13,4 @@ returns c =
     let v = c.vector-v.result in
     let l : length v ≡ 16 = search rules in
     c.cmac_of.ensures
-    ∙ ap₂ ciphered (rw (c.vector-v.ensures, c.mirror_of-p.ensures.bytes, c.expand-w.ensures) refl) (ap cmac_cost l)
+    ∙ ap₂ counted (rw (c.vector-v.ensures, c.mirror_of-p.ensures.bytes, c.expand-w.ensures) refl) (ap cmac_cost l)

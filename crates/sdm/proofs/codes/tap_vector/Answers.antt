@@ -3,7 +3,7 @@ use mathlib.Core.Path.{◌≡◌, ap, ◌∙◌}
 use mathlib.Core.List.{◌++◌}
 use lib.ListN.{length, replicate}
 use Rattle.base.proofs.Pieces.{tab_of}
-use Rattle.aes.specs.Block.{cipher, ciphered, block_cost}
+use Rattle.aes.specs.Block.{cipher, counted, block_cost}
 use borrow.Author.Rules.{rules}
 use Rattle.sdm.proofs.codes.tap_vector.Goals as goal
 
@@ -11,4 +11,4 @@ pub returns : goal.returns
 returns c =
     let l : length c.three-c.result ≡ 3 = search rules in
     c.encrypt.ensures
-    ∙ ap (λ t. ciphered (cipher c.args.w.now (t ++ replicate 13 0)) block_cost) (tab_of 3 c.three-c.result l ∙ c.three-c.ensures)
+    ∙ ap (λ t. counted (cipher c.args.w.now (t ++ replicate 13 0)) block_cost) (tab_of 3 c.three-c.result l ∙ c.three-c.ensures)

@@ -11,7 +11,7 @@ returns c =
     let a = c.args in
     let x = c.tap_text-overlaid in
     let o = x.type_inv in
-    let l : length x.result.file ≡ 256 = search rules in
+    let l : length x.result.bytes ≡ 256 = search rules in
     subst (λ y. Gives y c.give.result)
     (part-given_of a.tag a.r a.iso a.at a.count c.accepting.result x.result c.cut-p.result
     c.accepting.ensures x.ensures l c.cut-p.ensures)
