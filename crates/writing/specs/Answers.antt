@@ -19,10 +19,10 @@ record_room true r room = pick (leb (length (string_of r)) (length room)) (over 
 record_room false r room = room
 
 -- for file n; the file byte is judged before the record is looked at
-unfoldable pub written_as : ℕ → Settings → List ℕ → Result ℕ NotWritten
+abbrev pub written_as : ℕ → Settings → List ℕ → Result ℕ NotWritten
 written_as n r room = by_fault n (λ f. Err (NoFile f)) (record_as (meets n r) r room)
 
-unfoldable pub written_room : ℕ → Settings → List ℕ → List ℕ
+abbrev pub written_room : ℕ → Settings → List ℕ → List ℕ
 written_room n r room = by_fault n (λ f. room) (record_room (meets n r) r room)
 
 -- its number: the length of the string, the status of a bad file, or the house's 1008 for a bad record, 1006 for a room too small
@@ -37,5 +37,5 @@ unfoldable pub record_number : Bool → Settings → List ℕ → ℕ
 record_number true r room = pick (leb (length (string_of r)) (length room)) (length (string_of r)) 1006
 record_number false r room = 1008
 
-unfoldable pub writing_number : ℕ → Settings → List ℕ → ℕ
+abbrev pub writing_number : ℕ → Settings → List ℕ → ℕ
 writing_number n r room = by_fault n file_fault_word (record_number (meets n r) r room)

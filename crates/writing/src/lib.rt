@@ -28,7 +28,7 @@ impl From<FileFault> for NotWritten {
 }
 
 // The normal string of a record at the front of the room, with its length. A refusal leaves the room.
-#[tactic(auto, unfolding(settings::specs::Filing::file_judged, crate::specs::Answers::written_as, crate::specs::Answers::written_room, crate::specs::Answers::written_number, crate::specs::Answers::writing_number), using(crate::proofs::Counted::record_numbered))]
+#[tactic(auto, unfolding(settings::specs::Filing::file_judged, crate::specs::Answers::written_number), using(crate::proofs::Counted::record_numbered))]
 pub fn write(file: u8, r: Settings, room: &mut [u8]) -> Result<usize, NotWritten>
     ensures answer { result ≡ written_as file r room.old }
     ensures left { room.new ≡ written_room file r room.old }
