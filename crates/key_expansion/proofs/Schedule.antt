@@ -1,14 +1,13 @@
 -- The key expansion a round at a time is the standard's, word by word.
-use mathlib.Core.Path.{◌≡◌, refl, sym, ap, ap₂, ◌∙◌}
+use mathlib.Core.Path.{◌≡◌, refl, sym, ap, ◌∙◌}
 use mathlib.Core.List.{List, [], ◌∷◌, ◌++◌, append_assoc, append-nil}
-use Prim.Native.Nat.{ℕ, zero, suc, ◌+◌, ◌*◌, ◌/◌, ◌%◌, ◌<◌, ◌≤◌}
+use Prim.Native.Nat.{ℕ, zero, suc, ◌+◌, ◌*◌, ◌/◌, ◌%◌}
 use native.Mathlib.Omega.{arith}
 use native.Mathlib.Numerals.{add-one, add-three, add-four}
 use borrow.Author.Tests.{eq-eqb, ne_eqb}
-use lib.Dec.{lit<}
-use lib.ListN.{length, get_or, take, drop, length-append, length-take, length-drop, get_or-append}
+use lib.ListN.{length, length-append, length-take, length-drop, get_or-append}
 use lib.Seq.{ext_get_or, get_or-append-add, take-add, take_all}
-use Rattle.base.specs.Bytes.{byte_at, tab}
+use Rattle.base.specs.Bytes.{byte_at}
 use Rattle.base.proofs.Bytes.{tab_at, tab-length}
 use Rattle.sbox.specs.Field.{xtime}
 use Rattle.sbox.specs.Tables.{sbox}

@@ -9,6 +9,7 @@ ghost use Rattle.key_expansion.specs.NextKey.{first_word, next_key};
 ghost use Rattle.words.specs.Words.{rows, block_of};
 
 // A byte times x (4.2.1).
+#[tactic(auto, unfolding(sbox::specs::Field::xtime))]
 fn double(x: u8) -> u8
     ensures { result ≡ xtime x }
 {
@@ -20,11 +21,13 @@ fn first_word(t: &[u8; 256], a: u32, d: u32, rc: u8) -> u32
     requires { t.now ≡ sbox }
     ensures { rows result ≡ first_word sbox rc (rows a) (rows d) }
 {
-    let x = t[(d / 256) as usize % 256] ^ rc;
-    let y = t[(d / 65536) as usize % 256];
-    let z = t[(d / 16777216) as usize % 256];
-    let u = t[d as usize % 256];
-    a ^ words::pack(x, y, z, u)
+    let [w, x, y, z] = d.to_le_bytes();
+    a ^ words::pack(
+        t[usize::from(x)] ^ rc,
+        t[usize::from(y)],
+        t[usize::from(z)],
+        t[usize::from(w)],
+    )
 }
 
 // The round key behind a round key.
@@ -46,16 +49,12 @@ pub fn expand(key: [u8; 16]) -> [[u8; 16]; 11]
     let t = sbox::forward();
     let mut w = [key; 11];
     let mut k = words::columns(key);
-    let mut rc = 1u8;
-    let mut i = 0;
-    while i < 10 {
-        let n = next_key(&t, k, rc);
-        let b = words::bytes_of(n);
-        let c = double(rc);
-        k = n;
-        rc = c;
-        w[i + 1] = b;
-        i += 1;
+    let mut rc = 1;
+    for i in 1..11 {
+        let next = next_key(&t, k, rc);
+        k = next;
+        rc = double(rc);
+        w[i] = words::bytes_of(k);
     }
     w
 }
