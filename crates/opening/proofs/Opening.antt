@@ -8,7 +8,6 @@ use lib.ListN.{length, take, drop}
 use lib.Seq.{take-length}
 use borrow.Author.Tests.{lt-ltb, le-ltb, leb-true, eqb-true}
 use native.Mathlib.Omega.{arith}
-use Rattle.base.specs.Decide.{or}
 use Rattle.base.specs.Bytes.{same}
 use Rattle.base.proofs.Bytes.{and_left, and_right}
 use Rattle.cbc.specs.Cbc.{cbc_back}
@@ -20,8 +19,9 @@ use Rattle.opening.specs.Command.{part_right, length_right, checked, checked_cos
 use Rattle.messaging.specs.declared.Session.{Session}
 use Rattle.messaging.specs.declared.Mode.{Mode}
 use Rattle.messaging.specs.declared.Mode.TheVariants.{Plain, Mac, Full}
-use Rattle.opening.specs.declared.OpenedFor.{OpenedFor}
-use Rattle.opening.specs.declared.Opened.TheVariants.{TooLong, NoRoom}
+use Rattle.std.proofs.Common.{Err}
+use Rattle.opening.specs.declared.Opened.{Opened}
+use Rattle.opening.specs.declared.NotOpened.TheVariants.{TooLong, NoRoom}
 
 -- without a data part there is nothing
 pub part_none : (m : Mode) (n : ℕ) → part_right m false n ≡ eqb n 0
@@ -99,11 +99,11 @@ unfolding content
 content_none s v p = refl
 
 -- what was opened, told otherwise
-pub into_as : {o u : Opening} {n k : ℕ} {old new : List ℕ} {r : OpenedFor} → OpensInto o n old r new → o ≡ u → n ≡ k → OpensInto u k old r new
+pub into_as : {o u : Opening} {n k : ℕ} {old new : List ℕ} {r : Opened} → OpensInto o n old r new → o ≡ u → n ≡ k → OpensInto u k old r new
 into_as {old = old} h e f = record { answer = h.answer ∙ ap told e; room = h.room ∙ ap (left old) e; cost = h.cost ∙ f }
 
 -- what opens where nothing is refused before
-pub into_opens : {x old new : List ℕ} {o : Opening} {n : ℕ} {r : OpenedFor} → length x ≤ 255 → length x ≤ length old → OpensInto o n old r new
+pub into_opens : {x old new : List ℕ} {o : Opening} {n : ℕ} {r : Opened} → length x ≤ 255 → length x ≤ length old → OpensInto o n old r new
     → Opens x o n old r new
 unfolding answers leaves costs
 into_opens {x} {old} {new} {o} {n} {r} f g h =
@@ -155,11 +155,11 @@ full_blocks n e = e
 
 -- what is refused before that
 module _ (x old : List ℕ) (o : Opening) (n : ℕ) where
-  pub opens_long : 255 < length x → Opens x o n old (opened_for TooLong 0) old
+  pub opens_long : 255 < length x → Opens x o n old (opened_for (Err TooLong) 0) old
   unfolding answers leaves costs
   opens_long f = let a = lt-ltb 255 (length x) f in record { answer = rw a refl; room = rw a refl; cost = rw a refl }
 
-  pub opens_no_room : length x ≤ 255 → length old < length x → Opens x o n old (opened_for NoRoom 0) old
+  pub opens_no_room : length x ≤ 255 → length old < length x → Opens x o n old (opened_for (Err NoRoom) 0) old
   unfolding answers leaves costs
   opens_no_room f g =
       let a = le-ltb 255 (length x) f in

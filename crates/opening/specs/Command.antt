@@ -1,5 +1,5 @@
 -- 9.1.8 to 9.1.10: a command, as the other side builds it and as the tag opens it. 01's step 8.
-use Rattle.std.specs.Prelude.{Bool, List, ◌++◌, ◌≡◌, ℕ, ◌+◌, ◌-◌, eqb, leb, ltb, length, take, drop}
+use Rattle.std.specs.Prelude.{Bool, List, Result, Ok, Err, ◌++◌, ◌≡◌, ℕ, ◌+◌, ◌-◌, eqb, leb, ltb, length, take, drop}
 use Rattle.base.specs.Decide.{pick, and, or}
 use Rattle.base.specs.Bytes.{over}
 use Rattle.base.specs.Status.{operation_ok, integrity_error, length_error}
@@ -9,8 +9,8 @@ use Rattle.messaging.specs.declared.Session.{Session}
 use Rattle.messaging.specs.declared.Mode.{Mode}
 use Rattle.messaging.specs.declared.Mode.TheVariants.{Plain, Mac, Full}
 use Rattle.opening.specs.declared.Opened.{Opened}
-use Rattle.opening.specs.declared.OpenedFor.{OpenedFor}
-use Rattle.opening.specs.declared.Opened.TheVariants.{Data, WrongLength, WrongMac, WrongPadding, TooLong, NoRoom}
+use Rattle.opening.specs.declared.NotOpened.{NotOpened}
+use Rattle.opening.specs.declared.NotOpened.TheVariants.{WrongLength, WrongMac, WrongPadding, TooLong, NoRoom}
 
 -- what the other side sends: header, data part and MAC
 unfoldable pub sent_command : Session → Mode → ℕ → List ℕ → Bool → List ℕ → List ℕ
@@ -46,15 +46,15 @@ checked_cost m s cmd x h there =
 unfoldable pub opening_cost : Session → Mode → ℕ → List ℕ → ℕ → Bool → ℕ
 opening_cost s m cmd x h there = pick (length_right m there h (length x)) (checked_cost m s cmd x h there) 0
 
-abbrev pub opened_for : Opened → ℕ → OpenedFor
-opened_for o n = record { opened = o; cost = n }
+abbrev pub opened_for : Result ℕ NotOpened → ℕ → Opened
+opened_for o n = record { «data» = o; cost = n }
 
 -- the answer, and what the lent room holds: the plain data at its front, or where refused what stood there
-abbrev pub told : Opening → Opened
-told (plain d) = Data (length d)
-told wrong_length = WrongLength
-told wrong_mac = WrongMac
-told wrong_padding = WrongPadding
+abbrev pub told : Opening → Result ℕ NotOpened
+told (plain d) = Ok (length d)
+told wrong_length = Err WrongLength
+told wrong_mac = Err WrongMac
+told wrong_padding = Err WrongPadding
 
 abbrev pub left : List ℕ → Opening → List ℕ
 left old (plain d) = over d old
@@ -62,14 +62,14 @@ left old wrong_length = old
 left old wrong_mac = old
 left old wrong_padding = old
 
-pub record OpensInto (o : Opening) (n : ℕ) (old : List ℕ) (r : OpenedFor) (new : List ℕ) : Type 0 where
-  pub answer : r.opened ≡ told o
+pub record OpensInto (o : Opening) (n : ℕ) (old : List ℕ) (r : Opened) (new : List ℕ) : Type 0 where
+  pub answer : r.«data» ≡ told o
   pub room : new ≡ left old o
   pub cost : r.cost ≡ n
 
 -- (house) before that: no command has over 255 bytes, and the room has to hold as many as came
-unfoldable pub answers : List ℕ → List ℕ → Opening → Opened
-answers x old o = pick (ltb 255 (length x)) TooLong (pick (ltb (length old) (length x)) NoRoom (told o))
+unfoldable pub answers : List ℕ → List ℕ → Opening → Result ℕ NotOpened
+answers x old o = pick (ltb 255 (length x)) (Err TooLong) (pick (ltb (length old) (length x)) (Err NoRoom) (told o))
 
 unfoldable pub leaves : List ℕ → List ℕ → Opening → List ℕ
 leaves x old o = pick (ltb 255 (length x)) old (pick (ltb (length old) (length x)) old (left old o))
@@ -77,17 +77,17 @@ leaves x old o = pick (ltb 255 (length x)) old (pick (ltb (length old) (length x
 unfoldable pub costs : List ℕ → List ℕ → ℕ → ℕ
 costs x old n = pick (ltb 255 (length x)) 0 (pick (ltb (length old) (length x)) 0 n)
 
-pub record Opens (x : List ℕ) (o : Opening) (n : ℕ) (old : List ℕ) (r : OpenedFor) (new : List ℕ) : Type 0 where
-  pub answer : r.opened ≡ answers x old o
+pub record Opens (x : List ℕ) (o : Opening) (n : ℕ) (old : List ℕ) (r : Opened) (new : List ℕ) : Type 0 where
+  pub answer : r.«data» ≡ answers x old o
   pub room : new ≡ leaves x old o
   pub cost : r.cost ≡ costs x old n
 
 -- 01's status for each answer; the two that are refused by house rules alone have none, and the house's numbers 1 and 2
 -- (proofs/Answers.antt: opens-status)
-unfoldable pub opened_status : Opened → ℕ
-opened_status (Data n) = operation_ok
-opened_status WrongLength = length_error
-opened_status WrongMac = integrity_error
-opened_status WrongPadding = integrity_error
-opened_status TooLong = 1
-opened_status NoRoom = 2
+unfoldable pub opened_status : Result ℕ NotOpened → ℕ
+opened_status (Ok n) = operation_ok
+opened_status (Err WrongLength) = length_error
+opened_status (Err WrongMac) = integrity_error
+opened_status (Err WrongPadding) = integrity_error
+opened_status (Err TooLong) = 1
+opened_status (Err NoRoom) = 2

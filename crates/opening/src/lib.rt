@@ -5,18 +5,17 @@ mod command;
 
 pub use command::open;
 
-// What opening a command came to, and how many blocks were computed.
-#[derive(Clone, Copy)]
-pub struct OpenedFor {
-    pub opened: Opened,
+// What opening a command came to: how many bytes of plain data stand at the front of the room, or why none do; and how many blocks
+// were computed.
+#[derive(Clone, Copy, Debug, PartialEq, Eq)]
+pub struct Opened {
+    pub data: Result<usize, NotOpened>,
     pub cost: usize,
 }
 
-// What it came to.
-#[derive(Clone, Copy)]
-pub enum Opened {
-    // The plain data stands at the front of the room, this many bytes.
-    Data(usize),
+// Why a command is not opened.
+#[derive(Clone, Copy, Debug, PartialEq, Eq)]
+pub enum NotOpened {
     // 917E: not the length for the mode.
     WrongLength,
     // 911E.

@@ -1,36 +1,32 @@
--- `opening::command::give_hidden` meets its contract: the copy holds the part at its front.
-use mathlib.Core.Path.{◌≡◌, sym, ap, ◌∙◌}
-use mathlib.Core.Bool.{true}
-use Prim.Native.Nat.{◌%◌}
+-- The copy is decrypted, then unpadded.
+use Rattle.std.proofs.Common.{◌≡◌, refl, ap, ap₂, ◌∙◌, ◌+◌, ◌%◌, ◌≤◌, length}
 use native.Mathlib.Omega.{arith}
-use lib.ListN.{length, replicate}
-use lib.Seq.{length-take-le}
-use Rattle.base.proofs.Bytes.{none, front}
-use Rattle.base.proofs.Pieces.{also}
+use Rattle.cbc.specs.Cbc.{cbc_back, cbc_cost}
+use Rattle.cbc.proofs.Turns.{chains_whole, chains_cost}
 use Rattle.padding.proofs.Unpadding.{whole_of}
-use Rattle.messaging.specs.declared.Mode.TheVariants.{Full}
-use Rattle.messaging.specs.Protect.{content, command_iv, part_cost}
-use Rattle.opening.proofs.Opening.{into_as}
-use borrow.Author.Rules.{rules}
-use borrow.Author.Rules.{rules}
+use Rattle.messaging.specs.Protect.{part_cost}
+use Rattle.opening.proofs.Opening.{hidden_content, command_under, into_as}
 use Rattle.opening.proofs.command.give_hidden.Goals as goal
 
-pub slice_bounds-give_opened-end : goal.slice_bounds-give_opened-end
-slice_bounds-give_opened-end c =
-    let b = c.put.new.dst in
-    let l : length b ≡ 256 = search rules in
-    sym (length-take-le (length c.args.part.now) b (omega arith))
-
-pub give_opened-requires : goal.give_opened-requires
-give_opened-requires c =
-    let a = c.args in
-    let b = c.put.new.dst in
-    let l : length b ≡ 256 = search rules in
-    let q = length-take-le (length a.part.now) b (omega arith) in
-    (omega (arith, q), ap (λ n. n % 16) q ∙ whole_of (length a.part.now) c.requires.2)
+pub overflow_add-v : goal.overflow_add-v
+unfolding cbc_cost
+overflow_add-v c =
+    let e : c.copy_from_slice.new.self ≡ c.args.part.now = c.copy_from_slice.ensures.after in
+    let w : length c.copy_from_slice.new.self % 16 ≡ 0 = rw e (whole_of (length c.args.part.now) c.requires.2) in
+    let f : length c.copy_from_slice.new.self ≤ 255 = rw e c.requires.0 in
+    omega (arith, ap (λ x. x.cost) c.command_vector-v.ensures, chains_cost c.cbc_decrypt-decrypted.ensures w)
 
 pub returns : goal.returns
+unfolding part_cost
 returns c =
     let a = c.args in
-    let e = front (also (none (replicate 256 0)) a.part.now (length a.part.now) (omega arith) (omega arith) c.put.ensures) in
-    into_as c.give_opened.ensures (ap (content Full a.s (command_iv a.s) true) e) (ap (λ p. part_cost Full true (length p)) e)
+    let p = a.part.now in
+    let d = c.cbc_decrypt-decrypted in
+    let v = c.command_vector-v in
+    let x = c.expand-w in
+    let e : c.copy_from_slice.new.self ≡ p = c.copy_from_slice.ensures.after in
+    let w : length c.copy_from_slice.new.self % 16 ≡ 0 = rw e (whole_of (length p) c.requires.2) in
+    into_as c.give_text.ensures
+    (hidden_content a.s p d.new.buf
+    (chains_whole d.ensures w ∙ rw e (ap₂ (λ w i. cbc_back w i p) x.ensures (ap (λ y. y.bytes) v.ensures ∙ command_under a.s _ x.ensures))))
+    (ap₂ (λ i j. i + j) (ap (λ y. y.cost) v.ensures) (chains_cost d.ensures w ∙ rw e refl))
