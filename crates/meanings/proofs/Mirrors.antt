@@ -9,14 +9,13 @@ use native.Mathlib.Omega.{arith}
 use lib.Dec.{eqb, leb}
 use lib.ListN.{length, get_or}
 use borrow.Author.Tests.{leb-true, eqb-true, ne_eqb, lt-leb}
+use Rattle.std.specs.Prelude.{Ok}
 use Rattle.base.specs.Decide.{pick, and, or}
 use Rattle.base.specs.Bytes.{byte_at}
 use Rattle.base.proofs.Bytes.{le_or_lt, and_left, and_right}
 use Rattle.fields.specs.declared.Head.{Head}
 use Rattle.fields.specs.declared.Settings.{Settings}
 use Rattle.spans.specs.declared.Span.{Span}
-use Rattle.settings.specs.declared.Verdict.TheVariants.{Good}
-use Rattle.rules.specs.declared.Finding.TheVariants.{Kept}
 use Rattle.fields.specs.Fields.{sdm_on, sdm_byte, head_of, has_uid, has_counter, has_picc, has_mac, has_enc, present, ends, places_in, read_of, size_of}
 use Rattle.spans.specs.Spans.{span, uid_span, counter_span, picc_span, enc_span, mac_span, spans_of, end_of, Inside, Disjoint, inside, apart, apart_from, all_apart}
 use Rattle.rules.specs.Rules.{found, enc_size, mac_input, enc_between, position_rules}
@@ -81,12 +80,12 @@ off_absent s e =
       limit = rw z refl;
     }
 
-off_positions : (r : Settings) → Absent r.head → found (position_rules r) ≡ Kept
+off_positions : (r : Settings) → Absent r.head → found (position_rules r) ≡ Ok tt
 unfolding found position_rules enc_size mac_input enc_between span uid_span counter_span picc_span enc_span mac_span spans_of inside apart apart_from all_apart
 off_positions r a = rw (a.uid, a.counter, a.picc, a.mac, a.enc) refl
 
-on_positions : (s : List ℕ) → found (position_rules (record { head = head_of s; places = places_in s (head_of s) })) ≡ Kept
-    → found (position_rules (read_of s)) ≡ Kept
+on_positions : (s : List ℕ) → found (position_rules (record { head = head_of s; places = places_in s (head_of s) })) ≡ Ok tt
+    → found (position_rules (read_of s)) ≡ Ok tt
 unfolding read_of
 on_positions s e = e
 
@@ -94,10 +93,10 @@ off_read : (s : List ℕ) → sdm_on s ≡ false → Absent (read_of s).head
 unfolding read_of
 off_read s e = off_absent s e
 
-pub positions_kept : (n : ℕ) (s : List ℕ) → judged n s ≡ Good → found (position_rules (read_of s)) ≡ Kept
+pub positions_kept : (n : ℕ) (s : List ℕ) → judged n s ≡ Ok tt → found (position_rules (read_of s)) ≡ Ok tt
 positions_kept n s e = by (sdm_on s) refl
   where
-    by : (t : Bool) → sdm_on s ≡ t → found (position_rules (read_of s)) ≡ Kept
+    by : (t : Bool) → sdm_on s ≡ t → found (position_rules (read_of s)) ≡ Ok tt
     by true o = on_positions s (sdm_kept n s e o).positions
     by false o = off_positions (read_of s) (off_read s o)
 
@@ -115,7 +114,7 @@ five a b c d e p q r s t (suc (suc (suc zero))) = inside-ends d s
 five a b c d e p q r s t (suc (suc (suc (suc zero)))) = inside-ends e t
 five a b c d e p q r s t (suc (suc (suc (suc (suc j))))) = omega arith
 
-spans-inside : (r : Settings) → found (position_rules r) ≡ Kept → (j : ℕ) → end_of (get_or (spans_of r) j none) ≤ 256
+spans-inside : (r : Settings) → found (position_rules r) ≡ Ok tt → (j : ℕ) → end_of (get_or (spans_of r) j none) ≤ 256
 unfolding spans_of
 spans-inside r e j =
     let p = positions_held r e in
@@ -138,7 +137,7 @@ enc_between_placed r e m =
     let b = when (has_enc r.head) (and (leb r.places.input r.places.enc) (leb (r.places.enc + r.places.size) r.places.mac)) m e in
     (leb-true _ _ (and_left (leb r.places.input r.places.enc) _ b), leb-true _ _ (and_right (leb r.places.input r.places.enc) _ b))
 
-pub kept_placed : (r : Settings) → found (position_rules r) ≡ Kept → Placed r
+pub kept_placed : (r : Settings) → found (position_rules r) ≡ Ok tt → Placed r
 unfolding Inside
 kept_placed r e =
     let p = positions_held r e in
@@ -152,7 +151,7 @@ kept_placed r e =
     }
 
 -- Of every good string
-pub good_placed : (n : ℕ) (s : List ℕ) → judged n s ≡ Good → Placed (read_of s)
+pub good_placed : (n : ℕ) (s : List ℕ) → judged n s ≡ Ok tt → Placed (read_of s)
 good_placed n s e = kept_placed (read_of s) (positions_kept n s e)
 
 -- ---- lengths
@@ -193,7 +192,7 @@ size_bounds h = by h.sdm
         (omega arith, omega arith)
     by false = (omega arith, omega arith)
 
-pub good_size : (n : ℕ) (s : List ℕ) → judged n s ≡ Good → length s ≡ size_of (head_of s)
+pub good_size : (n : ℕ) (s : List ℕ) → judged n s ≡ Ok tt → length s ≡ size_of (head_of s)
 good_size n s e = by (sdm_on s) refl
   where
     by : (t : Bool) → sdm_on s ≡ t → length s ≡ size_of (head_of s)
@@ -201,5 +200,5 @@ good_size n s e = by (sdm_on s) refl
     by false o = off_size n s e o
 
 -- A good string has 3 to 27 bytes
-pub good_length : (n : ℕ) (s : List ℕ) → judged n s ≡ Good → (3 ≤ length s) × (length s ≤ 27)
+pub good_length : (n : ℕ) (s : List ℕ) → judged n s ≡ Ok tt → (3 ≤ length s) × (length s ≤ 27)
 good_length n s e = let b = size_bounds (head_of s) in let l = good_size n s e in (omega arith, omega arith)

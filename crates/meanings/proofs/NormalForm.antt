@@ -9,11 +9,12 @@ use lib.Dec.{eqb}
 use lib.ListN.{length, set, length-set}
 use lib.Seq.{get_or-set_other}
 use borrow.Author.Tests.{eq-eqb, ne_eqb}
+use Rattle.std.specs.Prelude.{Err}
 use Rattle.base.specs.Decide.{pick, and}
 use Rattle.base.specs.Bytes.{byte_at}
 use Rattle.base.proofs.Bytes.{le_or_lt}
 use Rattle.fields.specs.declared.Head.{Head}
-use Rattle.settings.specs.declared.Verdict.TheVariants.{Good, WrongFile}
+use Rattle.settings.specs.declared.Fault.TheVariants.{File}
 use Rattle.fields.specs.Fields.{bit, sdm_on, sdm_byte, mode_of, head_of, present, three, after, fields, places_in, places_of, read_of}
 use Rattle.rules.specs.Rules.{found, option_bits, sdm_rules, rest_rules, rules}
 use Rattle.fields.specs.Normal.{plain_mode, free_bits, normal}
@@ -172,4 +173,4 @@ normal-rules n s =
 
 pub normal-judged : (n : ℕ) (s : List ℕ) → judged n (normal s) ≡ judged n s
 unfolding judged
-normal-judged n s = ap (λ l. by_fault n WrongFile (verdict_of (found l))) (normal-rules n s)
+normal-judged n s = ap (λ l. by_fault n (λ f. Err (File f)) (verdict_of (found l))) (normal-rules n s)

@@ -4,9 +4,9 @@ use mathlib.Core.Bool.{Bool, true, false}
 use mathlib.Core.List.{List, [], ◌∷◌, ◌++◌}
 use Prim.Native.Nat.{ℕ, zero, suc, ◌+◌, ◌≤◌, ◌<◌}
 use native.Mathlib.Omega.{arith}
-use lib.Dec.{eqb}
 use lib.ListN.{length}
 use borrow.Author.Tests.{le-leb, eq-eqb}
+use Rattle.std.specs.Prelude.{Result, Ok}
 use Rattle.base.specs.Decide.{pick, and}
 use Rattle.base.specs.Bytes.{byte_at, AllBytes, low}
 use Rattle.base.proofs.Numbers.{low-bytes}
@@ -16,13 +16,10 @@ use Rattle.rules.specs.declared.Part.{Part}
 use Rattle.rules.specs.declared.Check.{Check}
 use Rattle.rules.specs.declared.Part.TheVariants.{OptionByte, RightsBytes, SdmOptionsByte, SdmRightsBytes, Whole}
 use Rattle.rules.specs.declared.Check.TheVariants.{OptionBits, SdmFile, Rights, SdmOptionsBits, SdmRights, MetaMirrors, MetaOff, EncNeeds}
-use Rattle.settings.specs.declared.Verdict.TheVariants.{Good}
-use Rattle.rules.specs.declared.Finding.{Finding}
-use Rattle.rules.specs.declared.Finding.TheVariants.{Kept}
+use Rattle.rules.specs.declared.findings.Broken.{Broken}
 use Rattle.fields.specs.Fields.{sdm_on, head_of, present, written, listed, read_of, size_of, front_bytes, sdm_bytes, string_of}
 use Rattle.rules.specs.Rules.{Rule, there, right, found, kept, option_bits, sdm_file, rights, sdm_options_bits, sdm_rights}
 use Rattle.rules.specs.Rules.{position_rules, sdm_rules, rest_rules, rules, fields_fit, sdm_meets, sdm_absent, sdm_part, modes, meets}
-use Rattle.fields.specs.Normal.{normal}
 use Rattle.settings.specs.Answers.{judged}
 use Rattle.meanings.specs.Meaning.{OneString, SameMeaning}
 use Rattle.meanings.proofs.Bits.{one_small, mode_is, option_good, packed-good}
@@ -42,11 +39,11 @@ absent_read : (s : List ℕ) → sdm_on s ≡ false → sdm_absent (head_of s) �
 unfolding sdm_absent head_of
 absent_read s e = rw (trip.zero_byte s 3 e, trip.zero_byte s 4 e, trip.zero_byte s 5 e) refl
 
-kept_true : {f : Finding} → f ≡ Kept → kept f ≡ true
+kept_true : {f : Result (Unit {0}) Broken} → f ≡ Ok tt → kept f ≡ true
 unfolding kept
 kept_true e = ap kept e
 
-part_read : (n : ℕ) (s : List ℕ) → judged n s ≡ Good → sdm_part (read_of s) ≡ true
+part_read : (n : ℕ) (s : List ℕ) → judged n s ≡ Ok tt → sdm_part (read_of s) ≡ true
 unfolding sdm_part sdm_meets read_of
 part_read n s e = by (sdm_on s) refl
   where
@@ -62,7 +59,7 @@ unfolding head_of
 mode_read s = mode_is (byte_at s 0)
 
 -- Of a good string of bytes, what it means meets the rules
-pub good-meets : (n : ℕ) (s : List ℕ) → AllBytes s → judged n s ≡ Good → meets n (read_of s) ≡ true
+pub good-meets : (n : ℕ) (s : List ℕ) → AllBytes s → judged n s ≡ Ok tt → meets n (read_of s) ≡ true
 unfolding meets read_of
 good-meets n s b e =
     let k = front_kept n s e in
@@ -70,11 +67,11 @@ good-meets n s b e =
     (and_both (ap (λ v. fields_fit (present (head_of s)) v) (trip.listed_places s (head_of s)) ∙ fields_fit_lem (present (head_of s)) s 6 b) (part_read n s e))
 
 -- ---- the string of a record that meets the rules is good
-there_kept : (p : Part) (b : Bool) (rs : List Rule) → b ≡ true → found rs ≡ Kept → found (there p b ∷ rs) ≡ Kept
+there_kept : (p : Part) (b : Bool) (rs : List Rule) → b ≡ true → found rs ≡ Ok tt → found (there p b ∷ rs) ≡ Ok tt
 unfolding found
 there_kept p b rs h e = rw h e
 
-right_kept : (k : Check) (b : Bool) (rs : List Rule) → b ≡ true → found rs ≡ Kept → found (right k b ∷ rs) ≡ Kept
+right_kept : (k : Check) (b : Bool) (rs : List Rule) → b ≡ true → found rs ≡ Ok tt → found (right k b ∷ rs) ≡ Ok tt
 unfolding found
 right_kept k b rs h e = rw h e
 
@@ -96,7 +93,7 @@ sdm_first h w = packed-good h.uid h.counter h.limit h.enc
 
 -- the rules of a string whose parts are known
 string_kept : (n : ℕ) (s : List ℕ) (h : Head) → 1 ≤ n → n ≤ 3 → head_of s ≡ h → 3 ≤ length s → option_bits (byte_at s 0) ≡ true → sdm_file n h ≡ true → rights h ≡ true
-    → found (rest_rules s h) ≡ Kept → judged n s ≡ Good
+    → found (rest_rules s h) ≡ Ok tt → judged n s ≡ Ok tt
 unfolding rules
 string_kept n s h i j e l o f r k =
     rules_kept n s i j
@@ -108,7 +105,7 @@ string_kept n s h i j e l o f r k =
     (ap (λ x. found (rest_rules s x)) e ∙ k))))))
 
 judged_on : (n : ℕ) (r : Settings) → 1 ≤ n → n ≤ 3 → meets n r ≡ true → r.head.sdm ≡ true
-    → judged n (front_bytes r.head ++ (sdm_bytes r.head ++ written (present r.head) (listed r.places))) ≡ Good
+    → judged n (front_bytes r.head ++ (sdm_bytes r.head ++ written (present r.head) (listed r.places))) ≡ Ok tt
 unfolding sdm_rules
 judged_on n r i j e o =
     let h = r.head in
@@ -142,11 +139,11 @@ first_alone : (h : Head) → modes h.mode ≡ true → option_bits (byte_at (fro
 unfolding front_bytes
 first_alone h m = option_good h.mode h.sdm (mode_small h.mode m)
 
-none_found : found [] ≡ Kept
+none_found : found [] ≡ Ok tt
 unfolding found
 none_found = refl
 
-judged_off : (n : ℕ) (r : Settings) → 1 ≤ n → n ≤ 3 → meets n r ≡ true → r.head.sdm ≡ false → judged n (front_bytes r.head) ≡ Good
+judged_off : (n : ℕ) (r : Settings) → 1 ≤ n → n ≤ 3 → meets n r ≡ true → r.head.sdm ≡ false → judged n (front_bytes r.head) ≡ Ok tt
 judged_off n r i j e o =
     let h = r.head in
     let m = meets-parts n r e in
@@ -156,10 +153,10 @@ judged_off n r i j e o =
     ∙ there_kept Whole _ _ (eq-eqb _ _ (three_is h ∙ sym (trip.size_off h o))) none_found)
 
 -- The string of a record that meets the rules is good
-pub written-good : (n : ℕ) (r : Settings) → 1 ≤ n → n ≤ 3 → meets n r ≡ true → judged n (string_of r) ≡ Good
+pub written-good : (n : ℕ) (r : Settings) → 1 ≤ n → n ≤ 3 → meets n r ≡ true → judged n (string_of r) ≡ Ok tt
 written-good n r i j e = by r.head.sdm refl
   where
-    by : (t : Bool) → r.head.sdm ≡ t → judged n (string_of r) ≡ Good
+    by : (t : Bool) → r.head.sdm ≡ t → judged n (string_of r) ≡ Ok tt
     by true o = ap (λ s. judged n s) (trip.whole_on n r e o).is ∙ judged_on n r i j e o
     by false o = ap (λ s. judged n s) (trip.whole_off n r e o).is ∙ judged_off n r i j e o
 
@@ -233,7 +230,7 @@ one_string n r i j e =
       only = λ t y j o q. sym o ∙ sym (trip.written_read n t y j) ∙ ap string_of q;
     }
 
-pub same_meaning : (n m : ℕ) (s t : List ℕ) → AllBytes s → AllBytes t → judged n s ≡ Good → judged m t ≡ Good → SameMeaning s t
+pub same_meaning : (n m : ℕ) (s t : List ℕ) → AllBytes s → AllBytes t → judged n s ≡ Ok tt → judged m t ≡ Ok tt → SameMeaning s t
 same_meaning n m s t b c e f =
     record {
       if_read = λ q. sym (trip.written_read n s b e) ∙ ap string_of q ∙ trip.written_read m t c f;

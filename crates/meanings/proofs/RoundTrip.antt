@@ -8,13 +8,13 @@ use native.Mathlib.Omega.{arith}
 use lib.Dec.{eqb, leb}
 use lib.ListN.{length, drop}
 use borrow.Author.Tests.{eqb-true, not-true}
+use Rattle.std.specs.Prelude.{Ok}
 use Rattle.base.specs.Decide.{pick, and, or}
 use Rattle.base.specs.Bytes.{byte_at, AllBytes}
 use Rattle.base.proofs.Bytes.{and_left, and_right}
 use Rattle.fields.specs.declared.Head.{Head}
 use Rattle.fields.specs.declared.Places.{Places}
 use Rattle.fields.specs.declared.Settings.{Settings}
-use Rattle.settings.specs.declared.Verdict.TheVariants.{Good}
 use Rattle.fields.specs.Fields.{bit, sdm_on, sdm_byte, mode_of, head_of, has_uid, has_counter, has_picc, has_mac, has_enc}
 use Rattle.fields.specs.Fields.{present, fields, ends, written, places_of, listed, places_in, read_of, size_of, front_bytes, sdm_bytes, string_of}
 use Rattle.rules.specs.Rules.{option_bits, rights, sdm_options_bits, sdm_rights, field_fits, fields_fit, sdm_meets, sdm_absent, sdm_part, modes, meets}
@@ -97,7 +97,7 @@ unfolding head_of
 sdm_of s = refl
 
 -- Writing what was read of any good string gives its normal form
-pub written_read : (n : ℕ) (s : List ℕ) → AllBytes s → judged n s ≡ Good → string_of (read_of s) ≡ normal s
+pub written_read : (n : ℕ) (s : List ℕ) → AllBytes s → judged n s ≡ Ok tt → string_of (read_of s) ≡ normal s
 unfolding read_of
 written_read n s b e = by (sdm_on s) refl
   where

@@ -1,6 +1,6 @@
 -- 01's examples of settings strings, for file 2.
-use Rattle.std.specs.Prelude.{◌≡◌, List, [], ◌∷◌, ℕ}
-use Rattle.settings.specs.declared.Verdict.TheVariants.{Good, Refused}
+use Rattle.std.specs.Prelude.{◌≡◌, List, [], ◌∷◌, ℕ, Ok, Err}
+use Rattle.settings.specs.declared.Fault.TheVariants.{String}
 use Rattle.settings.specs.declared.Status.TheVariants.{ParameterError}
 use Rattle.fields.specs.Normal.{normal}
 use Rattle.settings.specs.Answers.{judged}
@@ -14,8 +14,8 @@ example input mac =
 -- MAC offset 240 fits, 241 doesn't
 pub record Shown : Type 0 where
   pub normal_67 : normal (example 67 67) ≡ example 67 67
-  pub good_67 : judged 2 (example 67 67) ≡ Good
-  pub good_64 : judged 2 (example 64 64) ≡ Good
-  pub bad_63 : judged 2 (example 63 63) ≡ Refused ParameterError
-  pub good_240 : judged 2 (example 0 240) ≡ Good
-  pub bad_241 : judged 2 (example 0 241) ≡ Refused ParameterError
+  pub good_67 : judged 2 (example 67 67) ≡ Ok tt
+  pub good_64 : judged 2 (example 64 64) ≡ Ok tt
+  pub bad_63 : judged 2 (example 63 63) ≡ Err (String ParameterError)
+  pub good_240 : judged 2 (example 0 240) ≡ Ok tt
+  pub bad_241 : judged 2 (example 0 241) ≡ Err (String ParameterError)
