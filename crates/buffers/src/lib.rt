@@ -1,7 +1,7 @@
 // Bytes of any length up to N, in fixed memory.
 #![tactic(auto)]
 
-ghost use Rattle.std.specs.Prelude.{[], ◌≡◌, length, min, take, replicate};
+ghost use Rattle.std.specs.Prelude.{[], ◌≡◌, ◌++◌, length, min, take, replicate};
 ghost use Rattle.base.specs.Bytes.{over};
 ghost use Rattle.buffers.specs.Text.{text_of};
 
@@ -32,6 +32,17 @@ impl<const N: usize> Buffer<N> {
         let mut bytes = [0; N];
         bytes[..length].copy_from_slice(&text[..length]);
         Buffer { bytes, length }
+    }
+
+    // More bytes behind the text, as many as there is room for.
+    pub fn append(&mut self, more: &[u8])
+        ensures { text_of self.new ≡ take N (text_of self.old ++ more.now) }
+    {
+        let n = more.len().min(N - self.length);
+        let end = self.length + n;
+        let room = &mut self.bytes[..];
+        room[self.length..end].copy_from_slice(&more[..n]);
+        self.length = end;
     }
 
     // The text.

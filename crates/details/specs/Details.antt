@@ -1,11 +1,10 @@
 -- 01: GetCardUID (10.5.3), GetFileSettings (10.7.2), GetFileCounters (10.7.3).
-use Rattle.std.specs.Prelude.{List, [], ◌∷◌, ◌++◌, ℕ, length, take, drop, replicate}
-use Rattle.base.specs.Bytes.{low, over}
+use Rattle.std.specs.Prelude.{List, [], ◌∷◌, ◌++◌, ℕ, take, drop}
+use Rattle.base.specs.Bytes.{low}
 use Rattle.messaging.specs.declared.Mode.{Mode}
 use Rattle.messaging.specs.declared.Mode.TheVariants.{Full}
 use Rattle.state.specs.declared.Tag.{Tag}
 use Rattle.state.specs.State.{size_of, rules_of}
-use Rattle.replies.specs.declared.Excerpt.{Excerpt}
 use Rattle.replies.specs.Answer.{Answer, accepted}
 
 unfoldable pub card_uid : Tag → Answer
@@ -14,10 +13,6 @@ card_uid t = accepted t Full t.uid
 -- 00, FileOption, rights, size (3), the rest
 unfoldable pub settings_reply : List ℕ → ℕ → List ℕ
 settings_reply s size = 0 ∷ take 3 s ++ low 3 size ++ drop 3 s
-
--- of the code, not the paper: a reply's data at the front of a buffer of 258 zeros, and its length
-unfoldable pub at_front : List ℕ → Excerpt
-at_front s = record { bytes = over s (replicate 258 0); length = length s }
 
 unfoldable pub file_settings : Tag → ℕ → Mode → Answer
 file_settings t n m = accepted t m (settings_reply (rules_of t.files n) (size_of n))

@@ -23,6 +23,10 @@ cut_given n s =
 pub short_given : (n : ℕ) (s : List ℕ) → take 256 (take (min n 256) s) ≡ take (min n 256) s
 short_given n s = take_all 256 (take (min n 256) s) (omega (arith, length-take (min n 256) s))
 
+-- they are given whole out of a buffer
+pub buffer_given : (s : List ℕ) → length s ≤ 256 → take 256 (take 258 s) ≡ s
+buffer_given s h = ap (take 256) (take_all 258 s (omega arith)) ∙ take_all 256 s h
+
 -- what is laid into an empty room, at most 256 bytes, is given whole
 given-whole : (s b : List ℕ) → length s ≤ 256 → b ≡ laid s 0 (replicate 258 0) → take (min (length s) 256) b ≡ s
 given-whole s b l e =

@@ -1,21 +1,18 @@
 -- `details::file_settings` meets its contract.
-use borrow.Author.Rules.{rules}
-use Rattle.state.proofs.Strings.{string-short}
-use Rattle.details.specs.Details.{file_settings}
-use Rattle.details.proofs.Replies.{settings_taken, with_data}
+use mathlib.Core.Path.{ap, ap₂, subst, ◌∙◌}
+use lib.ListN.{take}
+use Rattle.state.specs.State.{size_of, rules_of}
+use Rattle.replies.specs.Answer.{Gives, accepted}
+use Rattle.details.specs.Details.{settings_reply, file_settings}
+use Rattle.details.proofs.Replies.{settings_given}
 use Rattle.details.proofs.file_settings.Goals as goal
 
-pub settings_reply-part-requires : goal.settings_reply-part-requires
-settings_reply-part-requires c =
-    let a = c.args in
-    rw c.string_in.ensures (string-short a.tag.files.rules a.tag.files.lens a.n)
-
 pub returns : goal.returns
-unfolding file_settings
+unfolding file_settings rules_of
 returns c =
-    let p = c.settings_reply-part in
-    let s = c.string_in in
-    let z = c.file_size-size in
     let a = c.args in
-    with_data a.tag a.m
-    (settings_taken a.tag.files a.n z.result _ p.result s.ensures z.ensures p.ensures) c.accept.ensures
+    let f = a.tag.files in
+    subst (λ d. Gives (accepted a.tag a.mode d) c.accept.result)
+    (ap (take 256) (c.settings_reply.ensures ∙ ap₂ settings_reply c.string_in-settings.ensures c.file_size.ensures)
+    ∙ settings_given f.rules f.lens a.n (size_of a.n))
+    c.accept.ensures
