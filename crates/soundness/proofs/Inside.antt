@@ -7,14 +7,13 @@ use native.Mathlib.Omega.{arith}
 use lib.Dec.{eqb, leb}
 use lib.ListN.{length, take, drop, get_or-eq_default}
 use borrow.Author.Tests.{eqb-true}
+use Rattle.std.specs.Prelude.{Ok, Err}
 use Rattle.base.specs.Bytes.{byte_at}
 use Rattle.base.proofs.Bytes.{and_left, and_right}
 use Rattle.fields.specs.Fields.{read_of, head_of, sdm_on, sdm_byte, has_uid, has_counter, has_picc, has_enc, has_mac}
 use Rattle.fields.specs.declared.Settings.{Settings}
 use Rattle.spans.specs.Spans.{span, uid_span, counter_span, picc_span, enc_span, mac_span, spans_of, reading_of, SpansFit}
-use Rattle.settings.specs.declared.Verdict.{Verdict}
-use Rattle.settings.specs.declared.Verdict.TheVariants.{Good, Refused, WrongFile}
-use Rattle.settings.specs.Answers.{judged}
+use Rattle.settings.specs.Answers.{Verdict, judged}
 use Rattle.meanings.specs.Placing.{Placed}
 use Rattle.meanings.proofs.Mirrors.{good_placed}
 use Rattle.state.specs.declared.Files.{Files}
@@ -23,12 +22,11 @@ use Rattle.state.specs.State.{slot_of, rules_of, reading_in}
 use Rattle.soundness.specs.Sound.{good, rules_sound, sound_tag}
 
 -- ---- a file's string
-good_is : (v : Verdict) → good v ≡ true → v ≡ Good
-good_is Good e = refl
-good_is (Refused s) e = let z : ◌≡◌ {A = ℕ} 0 1 = cc in absurd (omega arith)
-good_is (WrongFile f) e = let z : ◌≡◌ {A = ℕ} 0 1 = cc in absurd (omega arith)
+good_is : (v : Verdict) → good v ≡ true → v ≡ Ok tt
+good_is (Ok tt) e = refl
+good_is (Err f) e = cc
 
-pub rules-good : (f : Files) (n : ℕ) → rules_sound f n ≡ true → judged n (rules_of f n) ≡ Good
+pub rules-good : (f : Files) (n : ℕ) → rules_sound f n ≡ true → judged n (rules_of f n) ≡ Ok tt
 unfolding rules_sound
 rules-good f n e = good_is (judged n (rules_of f n)) (and_left _ _ (and_right (leb (byte_at f.lens (slot_of n)) 27) _ e))
 
@@ -52,7 +50,7 @@ placed-spans r p =
       mac = p.end 4;
     }
 
-good-spans : (n : ℕ) (s : List ℕ) → judged n s ≡ Good → SpansFit (reading_of (read_of s))
+good-spans : (n : ℕ) (s : List ℕ) → judged n s ≡ Ok tt → SpansFit (reading_of (read_of s))
 good-spans n s e = placed-spans (read_of s) (good_placed n s e)
 
 empty-spans : SpansFit (reading_of (read_of []))

@@ -1,10 +1,8 @@
 -- 01, refusal 3: what makes a state not sound, clause by clause.
-use Rattle.std.specs.Prelude.{Bool, true, false, not, List, ℕ, eqb, leb}
-use Rattle.base.specs.Decide.{pick, and, or}
+use Rattle.std.specs.Prelude.{Bool, true, false, not, List, ℕ, eqb, leb, Ok, Err}
+use Rattle.base.specs.Decide.{and, or}
 use Rattle.base.specs.Bytes.{byte_at, same}
-use Rattle.settings.specs.declared.Verdict.{Verdict}
-use Rattle.settings.specs.declared.Verdict.TheVariants.{Good, Refused, WrongFile}
-use Rattle.settings.specs.Answers.{judged}
+use Rattle.settings.specs.Answers.{Verdict, judged}
 use Rattle.fields.specs.Normal.{normal}
 use Rattle.state.specs.declared.Files.{Files}
 use Rattle.state.specs.declared.Tag.{Tag}
@@ -12,9 +10,8 @@ use Rattle.state.specs.State.{slot_of, rules_of, reading_in, no_padding}
 use Rattle.soundness.specs.declared.Judged.{Judged}
 
 abbrev pub good : Verdict → Bool
-good Good = true
-good (Refused e) = false
-good (WrongFile f) = false
+good (Ok _) = true
+good (Err e) = false
 
 -- a string keeps the rules for file n and is its own normal form
 abbrev pub string_sound : ℕ → List ℕ → Bool

@@ -5,10 +5,9 @@ ghost use Rattle.base.specs.Bytes.{byte_at};
 ghost use Rattle.fields.specs.Fields.{read_of};
 ghost use Rattle.spans.specs.Spans.{reading_of};
 ghost use Rattle.state.specs.State.{slot_of, string_at};
-ghost use Rattle.soundness.specs.Sound.{good, string_sound, keys_sound, alone_sound, padding_sound, level_sound, sound_tag, judged_tag};
+ghost use Rattle.soundness.specs.Sound.{string_sound, keys_sound, alone_sound, padding_sound, level_sound, sound_tag, judged_tag};
 
 use crate::Judged;
-use settings::Verdict;
 use spans::Reading;
 use state::Tag;
 
@@ -19,136 +18,84 @@ struct FileJudged {
     reading: Reading,
 }
 
-fn is_good(v: Verdict) -> bool
-    ensures { result ≡ good v }
-{
-    match v {
-        Verdict::Good => true,
-        Verdict::Refused(_) => false,
-        Verdict::WrongFile(_) => false,
-    }
-}
-
 // The settings of file n, read once.
+#[tactic(auto, unfolding(settings::specs::Answers::seen))]
 fn judge_settings(rules: &[u8; 81], lens: [u8; 3], n: u8) -> FileJudged
     ensures sound { result.sound ≡ and (leb (byte_at lens (slot_of n)) 27) (string_sound n (string_at rules.now lens n)) }
     ensures reading { result.reading ≡ reading_of (read_of (string_at rules.now lens n)) }
 {
     let s = state::string_in(rules, lens, n);
-    let e = settings::see(n, s);
-    let v = e.verdict;
-    let reading = e.reading;
+    let seen = settings::see(n, s);
     let short = base::at(&lens, state::slot_of(n)) <= 27;
-    let sound = both(short, both(is_good(v), normalising::is_normal(s)));
-    FileJudged { sound, reading }
+    FileJudged {
+        sound: short && seen.verdict.is_ok() && normalising::is_normal(s),
+        reading: seen.reading,
+    }
 }
 
 // Key numbers over 4; session and pending part both.
+#[tactic(auto, unfolding(crate::specs::Sound::keys_sound))]
 fn keys_sound(live: bool, key: u8, pending: bool, other: u8) -> bool
     ensures { result ≡ keys_sound live key pending other }
 {
-    if live {
-        if pending {
-            return false;
-        }
-        return key <= 4;
-    }
-    if pending {
-        return other <= 4;
-    }
-    true
+    (!live || key <= 4) && (!pending || other <= 4) && !(live && pending)
 }
 
 // A tap with a session or a pending part, or with file 2's SDM off.
+#[tactic(auto, unfolding(crate::specs::Sound::alone_sound))]
 fn alone_sound(tap: bool, live: bool, pending: bool, sdm: bool) -> bool
     ensures { result ≡ alone_sound tap live pending sdm }
 {
-    if tap {
-        if live {
-            return false;
-        }
-        if pending {
-            return false;
-        }
-        return sdm;
-    }
-    true
+    !tap || !live && !pending && sdm
 }
 
 // No tap, and the kept padding not all zero.
+#[tactic(auto, unfolding(crate::specs::Sound::padding_sound))]
 fn padding_sound(tap: bool, padding: [u8; 12]) -> bool
     ensures { result ≡ padding_sound tap padding }
 {
-    if tap {
-        return true;
-    }
-    base::alike(&padding, &[0; 12])
+    tap || base::alike(&padding, &[0; 12])
 }
 
 // Session, pending part, tap or selected file at PICC level; a selected file not 1 to 3.
+#[tactic(auto, unfolding(crate::specs::Sound::level_sound))]
 fn level_sound(application: bool, live: bool, pending: bool, tap: bool, file: u8) -> bool
     ensures { result ≡ level_sound application live pending tap file }
 {
-    if application {
-        return file <= 3;
-    }
-    if live {
-        return false;
-    }
-    if pending {
-        return false;
-    }
-    if tap {
-        return false;
-    }
-    file == 0
-}
-
-// Both, without a branch, so that the clauses are one expression.
-fn both(a: bool, b: bool) -> bool
-    ensures { result ≡ and a b }
-{
-    if a { b } else { false }
+    file <= 3 && (application || !live && !pending && !tap && file == 0)
 }
 
 // Whether a state is sound, and what its settings mean.
+#[tactic(auto, unfolding(crate::specs::Sound::judged_tag, crate::specs::Sound::sound_tag, crate::specs::Sound::rules_sound, state::specs::State::reading_in, state::specs::State::rules_of))]
 pub fn judge_tag(t: Tag) -> Judged
     ensures { result ≡ judged_tag t }
 {
-    let uid = t.uid;
-    let rules = t.files.rules;
-    let lens = t.files.lens;
-    let padding = t.tap.padding;
-    let one = judge_settings(&rules, lens, 1);
-    let two = judge_settings(&rules, lens, 2);
-    let three = judge_settings(&rules, lens, 3);
+    let files = t.files;
+    let one = judge_settings(&files.rules, files.lens, 1);
+    let two = judge_settings(&files.rules, files.lens, 2);
+    let three = judge_settings(&files.rules, files.lens, 3);
     let live = t.live.on;
     let pending = t.pending.on;
     let tap = t.tap.on;
-    let talks = both(
-        keys_sound(live, t.live.key, pending, t.pending.key),
-        both(
-            alone_sound(tap, live, pending, two.reading.settings.head.sdm),
-            both(
-                padding_sound(tap, padding),
-                level_sound(t.place.application, live, pending, tap, t.place.file),
-            ),
-        ),
-    );
-    let rest = both(t.tap.counter <= 16777215, both(uid[0] == 4, talks));
-    let sound = both(one.sound, both(two.sound, both(three.sound, rest)));
-    let first = one.reading;
-    let second = two.reading;
-    let third = three.reading;
+    let sound = one.sound
+        && two.sound
+        && three.sound
+        && t.tap.counter <= 16777215
+        && t.uid[0] == 4
+        && keys_sound(live, t.live.key, pending, t.pending.key)
+        && alone_sound(tap, live, pending, two.reading.settings.head.sdm)
+        && padding_sound(tap, t.tap.padding)
+        && level_sound(t.place.application, live, pending, tap, t.place.file);
     Judged {
         sound,
-        first,
-        second,
-        third,
+        first: one.reading,
+        second: two.reading,
+        third: three.reading,
     }
 }
 
 // Whether a state is sound.
+#[tactic(auto, unfolding(crate::specs::Sound::judged_tag))]
 pub fn sound(t: Tag) -> bool
     ensures { result ≡ sound_tag t }
 {
