@@ -1,17 +1,16 @@
 -- A buffer that is worked through block by block: what is done and what is still to do make the whole.
 use mathlib.Core.Path.{◌≡◌, refl, sym, ap, ap₂, ◌∙◌}
-use mathlib.Core.List.{List, [], ◌++◌, append_assoc, append-nil}
-use Prim.Native.Nat.{ℕ, zero, suc, ◌+◌, ◌-◌, ◌*◌, ◌/◌, ◌%◌, ◌≤◌, ◌<◌}
-use native.Mathlib.Nat.{le_refl}
-use native.Mathlib.Numerals.{sub-one}
+use mathlib.Core.List.{List, ◌++◌, append_assoc, append-nil}
+use Prim.Native.Nat.{ℕ, zero, suc, ◌+◌, ◌-◌, ◌*◌, ◌%◌, ◌≤◌, ◌<◌}
 use native.Mathlib.Omega.{arith}
 use borrow.Author.Tests.{eq-eqb, le-leb}
-use lib.ListN.{length, take, drop, length-take, length-drop}
+use lib.ListN.{length, take, drop}
 use lib.Seq.{take_all, drop-drop, take-paste, drop-paste}
 use Rattle.base.specs.Bytes.{laid}
 use Rattle.base.proofs.Bytes.{laid-fits, laid-length}
-use Rattle.cbc.specs.Cbc.{across, block_at, cbc_cost, Chains}
-use Rattle.cbc.specs.declared.Chain.{Chain}
+use Rattle.std.specs.Prelude.{Result}
+use Rattle.cbc.specs.Cbc.{across, block_at, cbc_cost, chained_cost, Chains}
+use Rattle.cbc.specs.declared.Ragged.{Ragged}
 
 -- a block inside the slice
 pub block_inside : (s : List ℕ) (at : ℕ) → at + 16 ≤ length s → block_at s at ≡ take 16 (drop at s)
@@ -54,9 +53,9 @@ module _ (f g : List ℕ → List ℕ → List ℕ) (n₀ : ℕ) (v₀ old : Lis
       }
 
   -- the same, with the buffer and the vector as a turn leaves them
-  pub still_told : (buf v b buf' v' : List ℕ) (at left : ℕ) → Still f g n₀ v₀ old buf v at left → 0 < left → b ≡ f v (take 16 (drop at buf)) → length b ≡ 16
-      → buf' ≡ laid b at buf → v' ≡ g v (take 16 (drop at buf)) → Still f g n₀ v₀ old buf' v' (at + 16) (left - 1)
-  still_told buf v b buf' v' at left h p e l eb ev = rw (eb, ev) (still_turn buf v b at left h p e l)
+  pub still_told : (buf v b buf' v' : List ℕ) (at left at' left' : ℕ) → Still f g n₀ v₀ old buf v at left → 0 < left → b ≡ f v (take 16 (drop at buf))
+      → length b ≡ 16 → buf' ≡ laid b at buf → v' ≡ g v (take 16 (drop at buf)) → at' ≡ at + 16 → left' ≡ left - 1 → Still f g n₀ v₀ old buf' v' at' left'
+  still_told buf v b buf' v' at left at' left' h p e l eb ev ea el = rw (eb, ev, ea, el) (still_turn buf v b at left h p e l)
 
   pub still_end : (buf v : List ℕ) (at left : ℕ) → Still f g n₀ v₀ old buf v at left → left ≤ 0 → buf ≡ across f g n₀ v₀ old
   unfolding across
@@ -64,9 +63,9 @@ module _ (f g : List ℕ → List ℕ → List ℕ) (n₀ : ℕ) (v₀ old : Lis
   still_end buf v at (suc n) h p = absurd (omega arith)
 
 -- whole blocks are chained
-pub chains_whole : {f : List ℕ → List ℕ} {old new : List ℕ} {r : Chain} → Chains f old r new → length old % 16 ≡ 0 → new ≡ f old
+pub chains_whole : {f : List ℕ → List ℕ} {old new : List ℕ} {r : Result ℕ Ragged} → Chains f old r new → length old % 16 ≡ 0 → new ≡ f old
 chains_whole {old = old} h e = simp (eq-eqb (length old % 16) 0 e) at h.left
 
 -- and each block is counted
-pub chains_cost : {f : List ℕ → List ℕ} {old new : List ℕ} {r : Chain} → Chains f old r new → length old % 16 ≡ 0 → r.cost ≡ cbc_cost (length old)
+pub chains_cost : {f : List ℕ → List ℕ} {old new : List ℕ} {r : Result ℕ Ragged} → Chains f old r new → length old % 16 ≡ 0 → chained_cost r ≡ cbc_cost (length old)
 chains_cost {old = old} h e = simp (eq-eqb (length old % 16) 0 e) at h.cost

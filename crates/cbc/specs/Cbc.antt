@@ -1,10 +1,8 @@
 -- SP 800-38A, section 6.2: cipher block chaining over whole blocks of 16 bytes, from an initial vector.
-use Rattle.std.specs.Prelude.{List, [], ◌++◌, Bool, ◌≡◌, ℕ, zero, suc, ◌+◌, ◌/◌, ◌%◌, eqb, leb, length, take, drop, replicate}
+use Rattle.std.specs.Prelude.{List, [], ◌++◌, Bool, ◌≡◌, ℕ, zero, suc, ◌+◌, ◌/◌, ◌%◌, eqb, leb, length, take, drop, replicate, Result, Ok, Err}
 use Rattle.base.specs.Decide.{pick}
 use Rattle.aes.specs.Block.{cipher, inv_cipher, xor_block}
-use Rattle.cbc.specs.declared.Chain.{Chain}
-use Rattle.cbc.specs.declared.Chained.{Chained}
-use Rattle.cbc.specs.declared.Chained.TheVariants.{Done, Ragged}
+use Rattle.cbc.specs.declared.Ragged.{Ragged}
 
 -- the block of s that starts at an index; zeros where s ends before it does
 unfoldable pub block_at : List ℕ → ℕ → List ℕ
@@ -40,14 +38,19 @@ abbrev pub whole : List ℕ → Bool
 whole s = eqb (length s % 16) 0
 
 -- (house) the number of each answer; 01 has none
-unfoldable pub chained_number : Chained → ℕ
-chained_number Done = 0
-chained_number Ragged = 1
+unfoldable pub chained_number : Result ℕ Ragged → ℕ
+chained_number (Ok cost) = 0
+chained_number (Err ragged) = 1
+
+-- how many blocks an answer computed
+abbrev pub chained_cost : Result ℕ Ragged → ℕ
+chained_cost (Ok cost) = cost
+chained_cost (Err ragged) = 0
 
 -- the answer with its number, what the buffer holds and what it cost: a length that is no whole number of blocks is refused before any
 -- block, the buffer as it was
-pub record Chains (f : List ℕ → List ℕ) (old : List ℕ) (r : Chain) (new : List ℕ) : Type 0 where
-  pub told : r.chained ≡ pick (whole old) Done Ragged
+pub record Chains (f : List ℕ → List ℕ) (old : List ℕ) (r : Result ℕ Ragged) (new : List ℕ) : Type 0 where
+  pub told : r ≡ pick (whole old) (Ok (cbc_cost (length old))) (Err record {})
   pub left : new ≡ pick (whole old) (f old) old
-  pub number : chained_number r.chained ≡ pick (whole old) 0 1
-  pub cost : r.cost ≡ pick (whole old) (cbc_cost (length old)) 0
+  pub number : chained_number r ≡ pick (whole old) 0 1
+  pub cost : chained_cost r ≡ pick (whole old) (cbc_cost (length old)) 0

@@ -6,97 +6,59 @@ ghost use Rattle.cbc.specs.Cbc.{block_at, Chains, cbc_out, cbc_back};
 
 use aes::{decrypt_with, encrypt_with, xor_block};
 
-// What chaining over a lent buffer came to, and how many blocks were computed.
-#[derive(Clone, Copy)]
-pub struct Chain {
-    pub chained: Chained,
-    pub cost: usize,
-}
-
-// What it came to.
-#[derive(Clone, Copy)]
-pub enum Chained {
-    // Every block was done.
-    Done,
-    // The length is no whole number of blocks: the buffer is as it was.
-    Ragged,
-}
+// The length is no whole number of blocks: the buffer is as it was.
+#[derive(Clone, Copy, Debug, PartialEq, Eq)]
+pub struct Ragged;
 
 // The block that starts at an index; zeros where the slice ends before it does.
 pub fn load(s: &[u8], at: usize) -> [u8; 16]
     ensures { result ≡ block_at s.now at }
 {
-    let mut r = [0u8; 16];
-    if s.len() < 16 {
-        return r;
+    let mut r = [0; 16];
+    if at <= s.len() && 16 <= s.len() - at {
+        r.copy_from_slice(&s[at..at + 16]);
     }
-    if s.len() - 16 < at {
-        return r;
-    }
-    base::put(&s[at..at + 16], &mut r, 0);
     r
 }
 
-// Encrypts a buffer, from an initial vector.
-pub fn cbc_encrypt(w: &[[u8; 16]; 11], iv: [u8; 16], buf: &mut [u8]) -> Chain
+// Encrypts a buffer, from an initial vector. Says how many blocks it computed.
+pub fn cbc_encrypt(w: &[[u8; 16]; 11], iv: [u8; 16], buf: &mut [u8]) -> Result<usize, Ragged>
     ensures { Chains (cbc_out w.now iv) buf.old result buf.new }
 {
     if buf.len() % 16 != 0 {
-        return Chain {
-            chained: Chained::Ragged,
-            cost: 0,
-        };
+        return Err(Ragged);
     }
     let t = sbox::mixing();
     let mut v = iv;
     let mut cost = 0;
-    let mut at = 0;
-    let mut left = buf.len() / 16;
-    while 0 < left {
-        let p = load(buf, at);
-        let out = encrypt_with(&t, w, xor_block(p, v));
-        let b = out.bytes;
-        base::put(&b, buf, at);
-        v = b;
-        cost += out.cost;
-        at += 16;
-        left -= 1;
+    for i in 0..buf.len() / 16 {
+        let p = load(buf, i * 16);
+        let c = encrypt_with(&t, w, xor_block(p, v));
+        base::put(&c.bytes, buf, i * 16);
+        v = c.bytes;
+        cost += c.cost;
     }
-    Chain {
-        chained: Chained::Done,
-        cost,
-    }
+    Ok(cost)
 }
 
-// Decrypts a buffer, from an initial vector.
-pub fn cbc_decrypt(w: &[[u8; 16]; 11], iv: [u8; 16], buf: &mut [u8]) -> Chain
+// Decrypts a buffer, from an initial vector. Says how many blocks it computed.
+pub fn cbc_decrypt(w: &[[u8; 16]; 11], iv: [u8; 16], buf: &mut [u8]) -> Result<usize, Ragged>
     ensures { Chains (cbc_back w.now iv) buf.old result buf.new }
 {
     if buf.len() % 16 != 0 {
-        return Chain {
-            chained: Chained::Ragged,
-            cost: 0,
-        };
+        return Err(Ragged);
     }
     let b = sbox::backward();
     let u = sbox::unmixing();
     let mut v = iv;
     let mut cost = 0;
-    let mut at = 0;
-    let mut left = buf.len() / 16;
-    while 0 < left {
-        let c = load(buf, at);
+    for i in 0..buf.len() / 16 {
+        let c = load(buf, i * 16);
         let d = decrypt_with(&b, &u, w, c);
-        let x = d.bytes;
-        let p = xor_block(x, v);
-        base::put(&p, buf, at);
+        let p = xor_block(d.bytes, v);
+        base::put(&p, buf, i * 16);
         v = c;
         cost += d.cost;
-        at += 16;
-        left -= 1;
     }
-    Chain {
-        chained: Chained::Done,
-        cost,
-    }
+    Ok(cost)
 }

@@ -1,56 +1,44 @@
 -- `cbc::cbc_encrypt` meets its contract: each turn lays one block in its place, and is counted.
-use mathlib.Core.Path.{◌≡◌, refl, ◌∙◌}
-use Prim.Native.Nat.{◌-◌}
+use mathlib.Core.Path.{◌≡◌, refl, ap, ◌∙◌}
+use Prim.Native.Nat.{◌*◌, ◌/◌}
 use native.Mathlib.Omega.{arith}
-use borrow.Author.Tests.{eq-eqb, ne_eqb}
-use lib.ListN.{take, drop}
-use Rattle.cbc.specs.Cbc.{sealed, cbc_out, chained_number, cbc_cost}
-use Rattle.cbc.proofs.Turns.{block_inside, still_start, still_told, still_end}
 use borrow.Author.Rules.{rules}
+use borrow.Author.Tests.{eq-eqb, ne_eqb}
+use lib.ListN.{length, take, drop}
+use Rattle.std.specs.Prelude.{Ok}
+use Rattle.cbc.specs.Cbc.{sealed, cbc_out, chained_number, cbc_cost}
+use Rattle.cbc.proofs.Turns.{block_inside, still_told, still_end}
 use Rattle.cbc.proofs.cbc_encrypt.Goals as goal
 
 pub returns-then-buf-ne0 : goal.returns-then-buf-ne0
 unfolding chained_number
-returns-then-buf-ne0 c = record {
-  told = simp (ne_eqb _ _ c.if-buf-ne0.true);
-  left = simp (ne_eqb _ _ c.if-buf-ne0.true);
-  number = simp (ne_eqb _ _ c.if-buf-ne0.true);
-  cost = simp (ne_eqb _ _ c.if-buf-ne0.true);
-}
+returns-then-buf-ne0 c =
+    let e = ne_eqb _ _ c.if-buf-ne0.true in
+    record { told = simp e; left = simp e; number = simp e; cost = simp e }
 
-pub loop-left-init : goal.loop-left-init
-loop-left-init c = (still_start _ _ _ _ _ (omega arith), omega arith)
-
-pub overflow_add-cost : goal.overflow_add-cost
-overflow_add-cost c =
-    let l = c.loop-left in
-    omega (arith, l.invariant.1, l.invariant.0.ends, c.encrypt_with-out.ensures.cost)
-
-pub overflow_add-at : goal.overflow_add-at
-overflow_add-at c = omega (arith, c.loop-left.invariant.0.ends)
-
-pub loop-left-preserved : goal.loop-left-preserved
+pub loop-i-preserved : goal.loop-i-preserved
 unfolding sealed
-loop-left-preserved c =
-    let l = c.loop-left in
-    let bl : c.load-p.result ≡ take 16 (drop l.at l.buf) = c.load-p.ensures
-    ∙ block_inside l.buf l.at (omega (arith, l.invariant.0.ends)) in
+loop-i-preserved c =
+    let l = c.loop-i in
     let w = c.args.w.now in
-    let e : c.encrypt_with-out.result.bytes ≡ sealed w l.v (take 16 (drop l.at l.buf)) = c.encrypt_with-out.ensures.standard (search rules)
-    ∙ rw (c.xor_block.ensures, bl) refl in (
-      still_told _ _ _ _ _ l.buf l.v _ _ _ l.at l.left l.invariant.0 c.loop-left-test.true e (search rules) c.put.ensures e,
-      omega (arith, l.invariant.1, c.encrypt_with-out.ensures.cost, c.loop-left-test.true),
-    )
-
-pub shape_of-buf : goal.shape_of-buf
-shape_of-buf c = c.loop-left.invariant.0.same
+    let bl : c.load-p.result ≡ take 16 (drop (l.i * 16) l.buf) = c.load-p.ensures
+    ∙ block_inside l.buf (l.i * 16) (omega (arith, l.invariant.still.ends, c.loop-i-test.true)) in
+    let e : c.encrypt_with-c.result.bytes ≡ sealed w l.v (take 16 (drop (l.i * 16) l.buf)) = c.encrypt_with-c.ensures.standard (search rules)
+    ∙ rw (c.xor_block.ensures, bl) refl in
+    record {
+      still = still_told _ _ _ _ _ l.buf l.v _ _ _ (l.i * 16) _ _ _ l.invariant.still (omega arith) e (search rules) c.put.ensures e (omega arith) (omega arith);
+      cost = omega (arith, l.invariant.cost, c.encrypt_with-c.ensures.cost);
+    }
 
 pub returns : goal.returns
 unfolding cbc_out chained_number cbc_cost
-returns c = record {
-  told = simp (eq-eqb _ _ c.if-buf-ne0.false);
-  left = still_end _ _ _ _ _ _ _ _ _ c.loop-left.invariant.0 c.loop-left-test.false
-      ∙ simp (eq-eqb _ _ c.if-buf-ne0.false);
-  number = simp (eq-eqb _ _ c.if-buf-ne0.false);
-  cost = rw (eq-eqb _ _ c.if-buf-ne0.false) (omega (arith, c.loop-left.invariant.1, c.loop-left-test.false));
-}
+returns c =
+    let e = eq-eqb _ _ c.if-buf-ne0.false in
+    let l = c.loop-i in
+    let n : l.cost ≡ length c.args.buf.now / 16 = omega (arith, l.invariant.cost) in
+    record {
+      told = rw e (ap Ok n);
+      left = still_end _ _ _ _ _ _ _ _ _ l.invariant.still (omega arith) ∙ simp e;
+      number = simp e;
+      cost = rw e n;
+    }

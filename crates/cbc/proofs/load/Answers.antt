@@ -1,24 +1,25 @@
--- `cbc::load` meets its contract: 16 bytes laid over 16.
+-- `cbc::load` meets its contract: the 16 bytes there, or zeros.
 use mathlib.Core.Path.{◌≡◌, sym, ◌∙◌}
 use Prim.Native.Nat.{◌+◌, ◌-◌}
 use native.Mathlib.Omega.{arith}
 use borrow.Author.Tests.{lt-leb}
-use lib.ListN.{length, take, drop, length-take, length-drop}
-use Rattle.base.proofs.Bytes.{laid-whole}
+use lib.ListN.{length}
 use Rattle.cbc.specs.Cbc.{block_at}
 use Rattle.cbc.proofs.Turns.{block_inside}
 use Rattle.cbc.proofs.load.Goals as goal
+use Rattle.cbc.proofs.load.Goals.{else-at-s-via-then-at-s+else-s-at-ge16, else-at-s-via-else-at-s}
 
--- `cbc::load` meets its contract: 16 bytes laid over 16.
-pub returns-then-s-lt16 : goal.returns-then-s-lt16
+pub returns-then-s-at-ge16 : goal.returns-then-s-at-ge16
+returns-then-s-at-ge16 c =
+    let a = c.args in
+    let e : a.at + 16 - a.at ≡ 16 = omega arith in
+    c.copy_from_slice.ensures.after ∙ rw e (sym (block_inside a.s.now a.at (omega arith)))
+
+pub returns-else-at-s : goal.returns-else-at-s
 unfolding block_at
-returns-then-s-lt16 c = let a = c.args in simp (lt-leb (a.at + 16) (length a.s.now) (omega arith))
-
-pub returns-then-s-at : goal.returns-then-s-at
-unfolding block_at
-returns-then-s-at c = let a = c.args in simp (lt-leb (a.at + 16) (length a.s.now) (omega arith))
-
-pub returns : goal.returns
-returns c =
-    let a = c.args in let e : a.at + 16 - a.at ≡ 16 = omega arith in
-    c.put.ensures ∙ rw e (laid-whole (take 16 (drop a.at a.s.now)) _ (simp (length-take, length-drop) (omega arith))) ∙ sym (block_inside a.s.now a.at (omega arith))
+returns-else-at-s c =
+    let a = c.args in
+    elim c.else-at-s.branch [
+      | else-at-s-via-then-at-s+else-s-at-ge16 w ↦ simp (lt-leb (a.at + 16) (length a.s.now) (omega arith))
+      | else-at-s-via-else-at-s w ↦ simp (lt-leb (a.at + 16) (length a.s.now) (omega arith))
+    ]
