@@ -1,5 +1,6 @@
 -- A promise determines the result: two results that it allows are equal, and so are the two lent rooms. Here the general lemma,
 -- and one for each record of equations that a promise is.
+use Rattle.std.specs.Prelude.{Result}
 use mathlib.Core.Bool.{Bool}
 use mathlib.Core.Path.{◌≡◌, sym, ◌∙◌, ap, ap₂}
 use mathlib.Core.List.{List}
@@ -8,8 +9,7 @@ use native.Mathlib.Omega.{arith}
 use lib.ListN.{length, take}
 use lib.Seq.{length-take-le}
 use Rattle.aes.specs.declared.Counted.{Counted}
-use Rattle.cbc.specs.declared.Chain.{Chain}
-use Rattle.cbc.specs.declared.Chained.{Chained}
+use Rattle.cbc.specs.declared.Ragged.{Ragged}
 use Rattle.cbc.specs.Cbc.{Chains}
 use Rattle.closing.specs.declared.Closed.{Closed}
 use Rattle.closing.specs.declared.ClosedFor.{ClosedFor}
@@ -54,9 +54,6 @@ fourfold r q first₁ first₂ second₁ second₂ third₁ third₂ p h =
 pub counted_once : {N : ℕ} (r q : Counted N) → r.bytes ≡ q.bytes → r.cost ≡ q.cost → r ≡ q
 counted_once {N} r q e c = let made : List ℕ → ℕ → Counted N = λ b n. record { bytes = b; cost = n } in ap₂ made e c
 
-chain_once : (r q : Chain) → r.chained ≡ q.chained → r.cost ≡ q.cost → r ≡ q
-chain_once r q e c = let made : Chained → ℕ → Chain = λ b n. record { chained = b; cost = n } in ap₂ made e c
-
 opened_once : (r q : OpenedFor) → r.opened ≡ q.opened → r.cost ≡ q.cost → r ≡ q
 opened_once r q e c = let made : Opened → ℕ → OpenedFor = λ b n. record { opened = b; cost = n } in ap₂ made e c
 
@@ -67,9 +64,8 @@ hidden_once : (r q : Hidden) → r.whole ≡ q.whole → r.cost ≡ q.cost → r
 hidden_once r q e c = let made : Bool → ℕ → Hidden = λ b n. record { whole = b; cost = n } in ap₂ made e c
 
 -- ---- the records
-pub chains_once : {f : List ℕ → List ℕ} {old : List ℕ} → DeterminedIn (λ (r : Chain) (new : List ℕ). Chains f old r new)
-chains_once r q new other p h =
-    (chain_once r q (p.told ∙ sym h.told) (p.cost ∙ sym h.cost), once new other p.left h.left)
+pub chains_once : {f : List ℕ → List ℕ} {old : List ℕ} → DeterminedIn (λ (r : Result ℕ Ragged) (new : List ℕ). Chains f old r new)
+chains_once r q new other p h = twice r q new other (p.told, p.left) (h.told, h.left)
 
 pub pads_once : {n : ℕ} {old : List ℕ} → DeterminedIn (λ (r : Padded) (new : List ℕ). Pads n old r new)
 pads_once r q new other p h = twice r q new other (p.told, p.left) (h.told, h.left)

@@ -1,4 +1,5 @@
 -- Each public function of the floors from base to mirror: its promise, as the source states it, determines the result and the lent room.
+use Rattle.std.specs.Prelude.{Result}
 use mathlib.Core.Bool.{Bool, not}
 use mathlib.Core.List.{List}
 use mathlib.Core.Path.{◌≡◌, sym, ◌∙◌}
@@ -15,7 +16,7 @@ use Rattle.aes.specs.Block.{block_cost, cipher, counted, inv_cipher, xor_block}
 use Rattle.aes.specs.declared.Counted.{Counted}
 use Rattle.aes.specs.ByTables.{Deciphers, Enciphers}
 use Rattle.cbc.specs.Cbc.{Chains, block_at, cbc_back, cbc_out}
-use Rattle.cbc.specs.declared.Chain.{Chain}
+use Rattle.cbc.specs.declared.Ragged.{Ragged}
 use Rattle.cmac.specs.Cmac.{cmac, cmac_cost, even_places, mac}
 use Rattle.fields.specs.Fields.{has_counter, has_enc, has_mac, has_picc, has_uid, head_of, listed, places_in, present, read_of, sdm_on, size_of}
 use Rattle.fields.specs.declared.Head.{Head}
@@ -130,10 +131,10 @@ xor_block_determined a b = once
 pub load_determined : (s : List ℕ) (at : ℕ) → Determined (λ (r : List ℕ). r ≡ block_at s at)
 load_determined s at = once
 
-pub cbc_encrypt_determined : (w : List (List ℕ)) (iv buf : List ℕ) → DeterminedIn (λ (r : Chain) (new : List ℕ). Chains (cbc_out w iv) buf r new)
+pub cbc_encrypt_determined : (w : List (List ℕ)) (iv buf : List ℕ) → DeterminedIn (λ (r : Result ℕ Ragged) (new : List ℕ). Chains (cbc_out w iv) buf r new)
 cbc_encrypt_determined w iv buf = chains_once
 
-pub cbc_decrypt_determined : (w : List (List ℕ)) (iv buf : List ℕ) → DeterminedIn (λ (r : Chain) (new : List ℕ). Chains (cbc_back w iv) buf r new)
+pub cbc_decrypt_determined : (w : List (List ℕ)) (iv buf : List ℕ) → DeterminedIn (λ (r : Result ℕ Ragged) (new : List ℕ). Chains (cbc_back w iv) buf r new)
 cbc_decrypt_determined w iv buf = chains_once
 
 -- ---- cmac
