@@ -27,8 +27,8 @@ use Rattle.closing.specs.Reply.{filled, closed, closed_length, reply_right, repl
 use Rattle.messaging.specs.declared.Session.{Session}
 use Rattle.messaging.specs.declared.Mode.{Mode}
 use Rattle.messaging.specs.declared.Mode.TheVariants.{Plain, Mac, Full}
-use Rattle.opening.specs.declared.OpenedFor.{OpenedFor}
-use Rattle.opening.specs.declared.Opened.TheVariants.{Data}
+use Rattle.std.proofs.Common.{Ok}
+use Rattle.opening.specs.declared.Opened.{Opened}
 use Rattle.closing.proofs.Closing.{hidden_some, hidden_none}
 use Rattle.opening.proofs.Opening.{opening-right}
 use Rattle.padding.proofs.Unpadding.{padded-length}
@@ -181,10 +181,10 @@ sent-command_opens s m cmd header t d k h e =
     ∙ rw (signed-right s cmd (header ++ p) m, signed-front s cmd (header ++ p) m, drop-append_seam header p) (content-sent s k (command_iv s) b d h m t e)
 
 -- so the tag's own function answers with the data, and lays it into the room
-pub sent-command_data : (s : Session) (m : Mode) (cmd : ℕ) (header : List ℕ) (t : Bool) (d old new : List ℕ) (n : ℕ) (r : OpenedFor) → IsBlock s.enc → AllBytes d
+pub sent-command_data : (s : Session) (m : Mode) (cmd : ℕ) (header : List ℕ) (t : Bool) (d old new : List ℕ) (n : ℕ) (r : Opened) → IsBlock s.enc → AllBytes d
     → (t ≡ false → d ≡ []) → length (sent_command s m cmd header t d) ≤ 255 → length (sent_command s m cmd header t d) ≤ length old
     → Opens (sent_command s m cmd header t d) (opening s m cmd (sent_command s m cmd header t d) (length header) t) n old r new
-    → (r.opened ≡ Data (length d)) × (new ≡ over d old)
+    → (r.«data» ≡ Ok (length d)) × (new ≡ over d old)
 unfolding answers leaves
 sent-command_data s m cmd header t d old new n r k h e f g o =
     let x = sent_command s m cmd header t d in
