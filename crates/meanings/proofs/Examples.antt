@@ -9,11 +9,11 @@ use Rattle.rules.specs.Rules.{meta_mirrors, meta_off, enc_needs, enc_size, mac_i
 use Rattle.rules.specs.Rules.{position_rules, sdm_rules, rest_rules, rules}
 use Rattle.meanings.specs.Worked.{example, Shown}
 use Rattle.fields.specs.Normal.{plain_mode, free_bits, normal}
-use Rattle.settings.specs.Answers.{fault_of, verdict_of, judged}
+use Rattle.settings.specs.Answers.{verdict_of, judged}
 
 pub shown : Shown
 unfolding
-    example judged verdict_of fault_of rules rest_rules sdm_rules position_rules found
+    example judged verdict_of rules rest_rules sdm_rules position_rules found
     option_bits sdm_file condition rights sdm_options_bits sdm_rights meta_mirrors meta_off enc_needs enc_size mac_input enc_between
     span uid_span counter_span picc_span enc_span mac_span spans_of inside apart apart_from all_apart
     sdm_on sdm_byte mode_of head_of has_uid has_counter has_picc has_mac has_enc present three fields ends

@@ -28,7 +28,7 @@ abbrev pub Verdict : Type 0
 Verdict = Result (Unit {0}) Fault
 
 -- 917E where a part is missing or the length is wrong, 919E where a test fails
-unfoldable pub fault_of : Broken → Fault
+abbrev pub fault_of : Broken → Fault
 fault_of (Missing p) = String LengthError
 fault_of (Wrong k) = String ParameterError
 

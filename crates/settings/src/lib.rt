@@ -2,6 +2,7 @@
 #![tactic(auto)]
 
 ghost use Rattle.std.specs.Prelude.{◌≡◌};
+ghost use Rattle.statuses.specs.Words.{status_word as word_of};
 ghost use Rattle.settings.specs.declared.Fault.TheVariants.{String, File};
 ghost use Rattle.settings.specs.Filing.{by_fault, file_fault_word, file_judged, filed_word, file_status};
 ghost use Rattle.settings.specs.Answers.{status_word, fault_word, fault_of, verdict_of, verdict_word, judged, seen, read_as, told_word};
@@ -72,6 +73,20 @@ impl From<Fault> for u16 {
     }
 }
 
+impl From<Fault> for statuses::Status {
+    ghost from_gives = { λ fault status. word_of status ≡ fault_word fault };
+
+    #[tactic(auto, unfolding(crate::specs::Answers::fault_word, crate::specs::Answers::status_word))]
+    fn from(fault: Fault) -> statuses::Status {
+        match fault {
+            Fault::String(Status::LengthError) => statuses::Status::LengthError,
+            Fault::String(Status::ParameterError) => statuses::Status::ParameterError,
+            Fault::File(FileFault::OverThirtyOne) => statuses::Status::ParameterError,
+            Fault::File(FileFault::NoSuchFile) => statuses::Status::FileNotFound,
+        }
+    }
+}
+
 impl From<Status> for Fault {
     ghost from_gives = { λ status fault. fault ≡ String status };
 
@@ -91,7 +106,6 @@ impl From<FileFault> for Fault {
 impl From<Broken> for Fault {
     ghost from_gives = { λ broken fault. fault ≡ fault_of broken };
 
-    #[tactic(auto, unfolding(crate::specs::Answers::fault_of))]
     fn from(broken: Broken) -> Fault {
         match broken {
             Broken::Missing(_) => Fault::String(Status::LengthError),
