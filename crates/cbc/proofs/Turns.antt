@@ -8,7 +8,7 @@ use lib.ListN.{length, take, drop}
 use lib.Seq.{take_all, drop-drop, take-paste, drop-paste}
 use Rattle.base.specs.Bytes.{laid}
 use Rattle.base.proofs.Bytes.{laid-fits, laid-length}
-use Rattle.std.specs.Prelude.{Result}
+use Rattle.std.specs.Prelude.{Result, Ok}
 use Rattle.cbc.specs.Cbc.{across, block_at, cbc_cost, chained_cost, Chains}
 use Rattle.cbc.specs.declared.Ragged.{Ragged}
 
@@ -69,3 +69,7 @@ chains_whole {old = old} h e = simp (eq-eqb (length old % 16) 0 e) at h.left
 -- and each block is counted
 pub chains_cost : {f : List ℕ → List ℕ} {old new : List ℕ} {r : Result ℕ Ragged} → Chains f old r new → length old % 16 ≡ 0 → chained_cost r ≡ cbc_cost (length old)
 chains_cost {old = old} h e = simp (eq-eqb (length old % 16) 0 e) at h.cost
+
+-- which is the answer
+pub chains_ok : {f : List ℕ → List ℕ} {old new : List ℕ} {r : Result ℕ Ragged} → Chains f old r new → length old % 16 ≡ 0 → r ≡ Ok (cbc_cost (length old))
+chains_ok {old = old} h e = simp (eq-eqb (length old % 16) 0 e) at h.told

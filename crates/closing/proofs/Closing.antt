@@ -12,7 +12,7 @@ use Rattle.base.specs.Bytes.{over}
 use Rattle.base.proofs.Bytes.{Holds, front, le_or_lt}
 use Rattle.cbc.specs.Cbc.{Chains, cbc_out, cbc_cost}
 use Rattle.key_expansion.specs.Keys.{key_expansion}
-use Rattle.cbc.specs.declared.Chain.{Chain}
+use Rattle.cbc.specs.declared.Ragged.{Ragged}
 use Rattle.padding.specs.Padding.{padded, padded_length, padding, padded_in, Pads}
 use Rattle.messaging.specs.Protect.{message_mac, message_mac_cost, sent, signed, reply_vector, reply_iv, part_cost, signed_cost, vector_cost}
 use Rattle.messaging.proofs.Costs.{part_few, signed_few}
@@ -21,7 +21,7 @@ use Rattle.messaging.specs.declared.Session.{Session}
 use Rattle.messaging.specs.declared.Mode.{Mode}
 use Rattle.messaging.specs.declared.Mode.TheVariants.{Plain, Mac, Full}
 use Rattle.closing.specs.declared.NotClosed.TheVariants.{TooLong, NoRoom}
-use Rattle.std.proofs.Common.{Option, Some, Ok, Err}
+use Rattle.std.proofs.Common.{Option, Some, Result, Ok, Err}
 use Rattle.base.proofs.Pieces.{over-over}
 use Rattle.cbc.proofs.Turns.{chains_whole}
 use Rattle.padding.proofs.Unpadding.{padded-length}
@@ -69,7 +69,7 @@ unfolding padding padded_length
 pads_to {n} {old} h f g = h.told ∙ rw (le-leb (n / 16 * 16 + 16) (length old) (omega (arith, hidden_some n f))) refl
 
 -- the bytes at the front of a room, padded, then encrypted in place
-pub seals_some : (s : Session) (iv old mid new : List ℕ) (w : List (List ℕ)) (n e : ℕ) (r : Option ℕ) (q : Chain) → 1 ≤ n
+pub seals_some : (s : Session) (iv old mid new : List ℕ) (w : List (List ℕ)) (n e : ℕ) (r : Option ℕ) (q : Result ℕ Ragged) → 1 ≤ n
     → n / 16 * 16 + 16 ≤ length old → Pads n old r mid → w ≡ key_expansion s.enc → iv ≡ reply_iv s → e ≡ n / 16 * 16 + 16
     → Chains (cbc_out w iv) (take e mid) q new → length new ≡ e
     → Seals (sent Full s (reply_iv s) (filled n) (take n old)) (hidden_length n) old e (new ++ drop e mid)

@@ -41,10 +41,10 @@ fn hide(s: Session, room: &mut [u8], n: usize) -> Closed
     let length = padding::pad(room, n).unwrap();
     let w = key_expansion::expand(s.enc);
     let v = reply_vector(&w, s);
-    let chained = cbc::cbc_encrypt(&w, v.bytes, &mut room[..length]);
+    let blocks = cbc::cbc_encrypt(&w, v.bytes, &mut room[..length]).unwrap();
     Closed {
         length,
-        cost: v.cost + chained.cost,
+        cost: v.cost + blocks,
     }
 }
 

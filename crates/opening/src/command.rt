@@ -103,8 +103,8 @@ fn give_hidden(s: Session, part: &[u8], room: &mut [u8]) -> Opened
     text.copy_from_slice(part);
     let w = key_expansion::expand(s.enc);
     let v = command_vector(&w, s);
-    let decrypted = cbc::cbc_decrypt(&w, v.bytes, text);
-    give_text(text, room, v.cost + decrypted.cost)
+    let blocks = cbc::cbc_decrypt(&w, v.bytes, text).unwrap();
+    give_text(text, room, v.cost + blocks)
 }
 
 // Opens a command in MAC, of the right length.

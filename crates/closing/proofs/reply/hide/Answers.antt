@@ -3,7 +3,7 @@ use Rattle.std.proofs.Common.{◌≡◌, refl, sym, ap, ◌∙◌, ◌+◌, ◌*
 use native.Mathlib.Omega.{arith}
 use lib.Seq.{length-take-le}
 use Rattle.cbc.specs.Cbc.{cbc_cost}
-use Rattle.cbc.proofs.Turns.{chains_cost}
+use Rattle.cbc.proofs.Turns.{chains_ok}
 use Rattle.closing.specs.Reply.{hidden_length}
 use Rattle.messaging.specs.Protect.{reply_iv, part_cost}
 use Rattle.closing.proofs.Closing.{seals_none, seals_some, hidden_some, hidden_cost_lem, reply_under, pads_to}
@@ -35,6 +35,15 @@ slice_bounds-cbc_encrypt-end-2 c =
     let l : length c.pad.new.room ≡ length c.args.room.now = search rules in
     sym (length-take-le c.unwrap-length.result c.pad.new.room (omega (arith, hidden_some c.args.n (omega arith))))
 
+pub unwrap-blocks-requires : goal.unwrap-blocks-requires
+unwrap-blocks-requires c =
+    let p = pads_to c.pad.ensures (omega arith) c.requires in
+    let u : c.unwrap-length.result ≡ c.args.n / 16 * 16 + 16 = cc in
+    let f : hidden_length c.args.n ≤ length c.args.room.now = c.requires in
+    let l : length c.pad.new.room ≡ length c.args.room.now = search rules in
+    let k : length (take c.unwrap-length.result c.pad.new.room) ≡ c.unwrap-length.result = length-take-le c.unwrap-length.result c.pad.new.room (omega (arith, hidden_some c.args.n (omega arith))) in
+    rw (chains_ok c.cbc_encrypt.ensures (rw k (omega arith))) (search rules)
+
 pub overflow_add-result : goal.overflow_add-result
 unfolding cbc_cost
 overflow_add-result c =
@@ -42,14 +51,16 @@ overflow_add-result c =
     let u : c.unwrap-length.result ≡ c.args.n / 16 * 16 + 16 = cc in
     let f : hidden_length c.args.n ≤ length c.args.room.now = c.requires in
     let l : length c.pad.new.room ≡ length c.args.room.now = search rules in
-    let k = length-take-le c.unwrap-length.result c.pad.new.room (omega (arith, hidden_some c.args.n (omega arith))) in
-    omega (arith, ap (λ x. x.cost) c.reply_vector-v.ensures, chains_cost c.cbc_encrypt-chained.ensures (rw k (omega arith)), k)
+    let k : length (take c.unwrap-length.result c.pad.new.room) ≡ c.unwrap-length.result = length-take-le c.unwrap-length.result c.pad.new.room (omega (arith, hidden_some c.args.n (omega arith))) in
+    let o = chains_ok c.cbc_encrypt.ensures (rw k (omega arith)) in
+    let w : c.unwrap-blocks.result ≡ cbc_cost (length (take c.unwrap-length.result c.pad.new.room)) = cc in
+    omega (arith, ap (λ x. x.cost) c.reply_vector-v.ensures, k)
 
 pub returns-clause-bytes : goal.returns-clause-bytes
 returns-clause-bytes c =
     let a = c.args in
     let p = c.pad in
-    let b = c.cbc_encrypt-chained in
+    let b = c.cbc_encrypt in
     let x = c.expand-w in
     let v = c.reply_vector-v in
     let z : 1 ≤ a.n = omega arith in
@@ -70,5 +81,6 @@ returns-clause-cost c =
     let u : c.unwrap-length.result ≡ a.n / 16 * 16 + 16 = cc in
     let f : hidden_length a.n ≤ length a.room.now = c.requires in
     let l : length c.pad.new.room ≡ length a.room.now = search rules in
-    let k = length-take-le c.unwrap-length.result c.pad.new.room (omega (arith, hidden_some a.n z)) in
-    hidden_cost_lem a.n _ _ _ z (k ∙ u) (ap (λ y. y.cost) c.reply_vector-v.ensures) (chains_cost c.cbc_encrypt-chained.ensures (rw k (omega arith)))
+    let k : length (take c.unwrap-length.result c.pad.new.room) ≡ c.unwrap-length.result = length-take-le c.unwrap-length.result c.pad.new.room (omega (arith, hidden_some a.n z)) in
+    let o = chains_ok c.cbc_encrypt.ensures (rw k (omega arith)) in
+    hidden_cost_lem a.n _ _ _ z (k ∙ u) (ap (λ y. y.cost) c.reply_vector-v.ensures) cc
