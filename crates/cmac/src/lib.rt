@@ -13,11 +13,9 @@ use cbc::load;
 fn shift(s: [u8; 16]) -> [u8; 16]
     ensures { result ≡ shifted s }
 {
-    let mut r = [0u8; 16];
-    let mut i = 0;
-    while i < 15 {
+    let mut r = [0; 16];
+    for i in 0..15 {
         r[i] = s[i] % 128 * 2 + s[i + 1] / 128 % 2;
-        i += 1;
     }
     r[15] = s[15] % 128 * 2;
     r
@@ -39,10 +37,9 @@ fn padded(s: &[u8]) -> [u8; 16]
     requires { length s.now < 16 }
     ensures { result ≡ s.now ++ 128 ∷ replicate (15 - length s.now) 0 }
 {
-    let mut r = [0u8; 16];
+    let mut r = [0; 16];
     base::put(s, &mut r, 0);
-    let n = s.len();
-    r[n] = 128;
+    r[s.len()] = 128;
     r
 }
 
@@ -51,19 +48,17 @@ fn last_block(t: &[u32; 256], w: &[[u8; 16]; 11], s: &[u8]) -> Counted<16>
     requires { (t.now ≡ mixing_table) × (length s.now ≤ 16) }
     ensures { result ≡ counted (last_block w.now s.now) block_cost }
 {
-    let zero = encrypt_with(t, w, [0u8; 16]);
-    let cost = zero.cost;
-    let l = zero.bytes;
-    let k1 = double_block(l);
+    let zero = encrypt_with(t, w, [0; 16]);
+    let k1 = double_block(zero.bytes);
     if s.len() == 16 {
         return Counted {
             bytes: xor_block(load(s, 0), k1),
-            cost,
+            cost: zero.cost,
         };
     }
     Counted {
         bytes: xor_block(padded(s), double_block(k1)),
-        cost,
+        cost: zero.cost,
     }
 }
 
@@ -72,19 +67,16 @@ pub fn cmac_of(w: &[[u8; 16]; 11], s: &[u8]) -> Counted<16>
     ensures { result ≡ counted (cmac w.now s.now) (cmac_cost (length s.now)) }
 {
     let t = sbox::mixing();
-    let mut v = [0u8; 16];
+    let front = s.len().saturating_sub(1) / 16;
+    let mut v = [0; 16];
     let mut cost = 0;
-    let mut at = 0;
-    while at + 16 < s.len() {
-        let n = encrypt_with(&t, w, xor_block(load(s, at), v));
-        let b = n.bytes;
-        v = b;
-        cost += n.cost;
-        at += 16;
+    for i in 0..front {
+        let c = encrypt_with(&t, w, xor_block(load(s, i * 16), v));
+        v = c.bytes;
+        cost += c.cost;
     }
-    let last = last_block(&t, w, &s[at..]);
-    let x = last.bytes;
-    let end = encrypt_with(&t, w, xor_block(x, v));
+    let last = last_block(&t, w, &s[front * 16..]);
+    let end = encrypt_with(&t, w, xor_block(last.bytes, v));
     let bytes = end.bytes;
     Counted {
         bytes,
