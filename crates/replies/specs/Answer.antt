@@ -1,12 +1,12 @@
 -- What a command is answered: status, data, the next state, and what it cost.
-use Rattle.std.specs.Prelude.{List, [], ◌≡◌, ℕ, min, ◌+◌, ◌≤◌, ltb, length, take, replicate}
+use Rattle.std.specs.Prelude.{List, [], Err, ◌≡◌, ℕ, min, ◌+◌, ◌≤◌, ltb, length, take, replicate}
 use Rattle.base.specs.Decide.{pick}
 use Rattle.base.specs.Bytes.{laid}
 use Rattle.base.specs.Status.{operation_ok}
 use Rattle.buffers.specs.Text.{text_of}
 use Rattle.statuses.specs.Words.{status_word}
 use Rattle.messaging.specs.declared.Mode.{Mode}
-use Rattle.closing.specs.declared.Closed.TheVariants.{Over}
+use Rattle.closing.specs.declared.NotClosed.TheVariants.{TooLong}
 use Rattle.closing.specs.Reply.{closed, overlong, closed_status, closed_cost}
 use Rattle.state.specs.declared.Live.{Live}
 use Rattle.state.specs.declared.Tag.{Tag}
@@ -53,7 +53,7 @@ afterwards t = talking t (raised t.live) t.pending
 -- An accepted command: its data closed in its mode under the raised CmdCtr; over 256 bytes with its MAC: 917E
 unfoldable pub accepted : Tag → Mode → List ℕ → Answer
 accepted t m d =
-    pick (overlong m (length d)) (refusal t (closed_status Over))
+    pick (overlong m (length d)) (refusal t (closed_status (Err TooLong)))
     (given_for (closed_cost m (length d)) (afterwards t) operation_ok (closed (session_of (raised t.live)) m 0 d))
 
 -- of the code, not the paper: a text given out of a room of 258 zeros; one of at most 256 bytes is given whole

@@ -7,7 +7,6 @@ ghost use Rattle.statuses.specs.Words.{status_word};
 ghost use Rattle.replies.specs.Answer.{Gives, refusal, given_for, room_given, accepted, raised, afterwards};
 
 use buffers::Buffer;
-use closing::Closed;
 use messaging::Mode;
 use state::{Live, Tag};
 use statuses::Status;
@@ -89,14 +88,16 @@ pub fn accept(tag: Tag, mode: Mode, reply: Buffer<258>) -> Done
     let next = after(tag);
     let mut bytes = reply.bytes;
     let n = reply.length.min(256);
-    let c = closing::close(state::session_of(next.live), mode, 0, &mut bytes, n);
-    match c.closed {
-        Closed::Reply(length) => Done {
+    match closing::close(state::session_of(next.live), mode, 0, &mut bytes, n) {
+        Ok(closed) => Done {
             status: Status::OperationOk,
-            data: Buffer { bytes, length },
+            data: Buffer {
+                bytes,
+                length: closed.length,
+            },
             tag: next,
-            cost: c.cost,
+            cost: closed.cost,
         },
-        Closed::Over | Closed::Small => refuse(tag, Status::LengthError),
+        Err(_) => refuse(tag, Status::LengthError),
     }
 }
