@@ -1,4 +1,5 @@
 -- No call passes 35 blocks: each kind of answer, and what opening its message costs.
+use Rattle.std.specs.Prelude.{Err, None, Ok, Option, Some}
 use mathlib.Core.Bool.{Bool, true, false}
 use mathlib.Core.Path.{◌≡◌, refl, sym, ap, subst, ◌∙◌}
 use mathlib.Core.List.{List, [], ◌∷◌}
@@ -21,14 +22,10 @@ use Rattle.order.specs.declared.Name.{Name}
 use Rattle.order.specs.declared.Name.TheVariants.{AuthenticateFirst, AuthenticateNonFirst, PartTwo, ChangeKey, GetKeyVersion, GetCardUid}
 use Rattle.order.specs.declared.Name.TheVariants.{GetFileSettings, ChangeFileSettings, GetFileCounters, ReadData, WriteData}
 use Rattle.order.specs.declared.Name.TheVariants.{IsoSelectFile, IsoReadBinary, IsoUpdateBinary}
-use Rattle.order.specs.declared.Named.{Named}
-use Rattle.order.specs.declared.Named.TheVariants.{Known, Unknown}
 use Rattle.order.specs.declared.Command.{Command}
-use Rattle.order.specs.declared.Ordered.{Ordered}
-use Rattle.order.specs.declared.Ordered.TheVariants.{Is, Refused}
 use Rattle.order.specs.Names.{ins_of, named}
 use Rattle.order.specs.Order.{header_length, has_data, form_right, iso_form, wrapped_status, iso_status}
-use Rattle.order.specs.Commands.{wrapped_command, iso_command, by_status, on_wrapped, on_iso, wrapped_order, iso_order, ordered, data_of}
+use Rattle.order.specs.Commands.{Ordered, wrapped_command, iso_command, by_status, on_wrapped, on_iso, wrapped_order, iso_order, ordered, data_of}
 use Rattle.order.proofs.Names.{named_ins}
 use Rattle.access.specs.declared.Grant.{Grant}
 use Rattle.access.specs.declared.Grant.TheVariants.{ByKey, ByTap, Free, Unasked, Never, Denied}
@@ -230,7 +227,7 @@ module _ (t : Tag) (c random : List ℕ) (fits : (n : ℕ) → SpansFit (reading
   abbrev Ordering : Ordered → Type 0
   Ordering o = Few (on_order t c random o)
 
-  is_wrapped : (n : Name) → byte_at c 1 ≡ ins_of n → Ordering (Is (wrapped_command n c))
+  is_wrapped : (n : Name) → byte_at c 1 ≡ ins_of n → Ordering (Ok (wrapped_command n c))
   unfolding wrapped_command
   is_wrapped n e =
       let k = wrapped_command n c in
@@ -238,7 +235,7 @@ module _ (t : Tag) (c random : List ℕ) (fits : (n : ℕ) → SpansFit (reading
       commanded_few t random r (fits k.file) n k (data_of k c)
       (step6_few t random r (fits k.file) k (data_of k c) (λ d f. wrapped_few t random r (fits k.file) c d (data_of k c) n e))
 
-  is_iso : (n : Name) → Ordering (Is (iso_command n c t.place.file))
+  is_iso : (n : Name) → Ordering (Ok (iso_command n c t.place.file))
   unfolding iso_command
   is_iso n =
       let k = iso_command n c t.place.file in
@@ -246,16 +243,16 @@ module _ (t : Tag) (c random : List ℕ) (fits : (n : ℕ) → SpansFit (reading
       commanded_few t random r (fits k.file) n k (data_of k c)
       (step6_few t random r (fits k.file) k (data_of k c) (λ d f. let z : ◌≡◌ {A = ℕ} 0 1 = ap (λ b. pick b 1 0) f in absurd (omega arith)))
 
-  wrapped-named : (n : Named) → named 0x90 (byte_at c 1) ≡ n → Ordering (on_wrapped c t.pending.on t.place.application n)
+  wrapped-named : (n : Option Name) → named 0x90 (byte_at c 1) ≡ n → Ordering (on_wrapped c t.pending.on t.place.application n)
   unfolding by_status
-  wrapped-named (Known n) e =
+  wrapped-named (Some n) e =
       way Ordering (eqb (wrapped_status c t.pending.on t.place.application) 0) (λ z. is_wrapped n (sym (named_ins 0x90 (byte_at c 1) n e))) (λ z. refusal_few t _)
-  wrapped-named Unknown e = refusal_few t 0x911C
+  wrapped-named None e = refusal_few t 0x911C
 
-  iso_named : (n : Named) → Ordering (on_iso c t.pending.on t.place.file n)
+  iso_named : (n : Option Name) → Ordering (on_iso c t.pending.on t.place.file n)
   unfolding by_status
-  iso_named (Known n) = way Ordering (eqb (iso_status c t.pending.on t.place.file) 0) (λ z. is_iso n) (λ z. refusal_few t _)
-  iso_named Unknown = refusal_few t 0x6D00
+  iso_named (Some n) = way Ordering (eqb (iso_status c t.pending.on t.place.file) 0) (λ z. is_iso n) (λ z. refusal_few t _)
+  iso_named None = refusal_few t 0x6D00
 
   pub answered_few : Few (answered t c random)
   unfolding answered ordered wrapped_order iso_order

@@ -1,4 +1,5 @@
 -- What the mirrors cost is 02's formula, and never over 28 (specs/CipherWork.antt).
+use Rattle.std.specs.Prelude.{Ok}
 use mathlib.Core.Bool.{Bool, true, false, not}
 use mathlib.Core.Path.{◌≡◌, refl, sym, ap, ap₂, ◌∙◌}
 use mathlib.Core.List.{List, ◌∷◌, []}
@@ -18,7 +19,6 @@ use Rattle.fields.specs.Fields.{has_picc, has_mac, has_enc, head_of, sdm_on, rea
 use Rattle.spans.specs.declared.Span.{Span}
 use Rattle.spans.specs.Spans.{span, uid_span, counter_span, picc_span, enc_span, mac_span, spans_of, reading_of, end_of, inside, apart, apart_from, all_apart}
 use Rattle.rules.specs.Rules.{enc_needs, enc_size, enc_between}
-use Rattle.settings.specs.declared.Verdict.TheVariants.{Good}
 use Rattle.settings.specs.Answers.{judged}
 use Rattle.meanings.proofs.Kept.{Positions, positions_held, sdm_kept}
 use Rattle.meanings.proofs.Mirrors.{positions_kept}
@@ -127,7 +127,7 @@ module _ (r : Settings) (on : r.head.sdm ≡ true) (needs : enc_needs r.head ≡
   pub settings_few : mirrored_blocks r ≤ 28
   settings_few = by_parts _ _ _ refl refl refl
 
-pub needs_of : (s : List ℕ) → judged 2 s ≡ Good → sdm_on s ≡ true → enc_needs (read_of s).head ≡ true
+pub needs_of : (s : List ℕ) → judged 2 s ≡ Ok tt → sdm_on s ≡ true → enc_needs (read_of s).head ≡ true
 unfolding read_of
 needs_of s e o = (sdm_kept 2 s e o).needs
 

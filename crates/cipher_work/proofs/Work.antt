@@ -1,11 +1,11 @@
 -- What a call reports (specs/CipherWork.antt): the formula of every mirrored read, its bound, and the bound of any call.
+use Rattle.std.specs.Prelude.{Ok}
 use mathlib.Core.Bool.{Bool, true}
 use mathlib.Core.Path.{◌≡◌, refl, ◌∙◌}
 use Prim.Native.Nat.{◌≤◌}
 use native.Mathlib.Omega.{arith}
 use Rattle.fields.specs.Fields.{head_of, sdm_on, read_of}
 use Rattle.spans.specs.Spans.{reading_of}
-use Rattle.settings.specs.declared.Verdict.TheVariants.{Good}
 use Rattle.settings.specs.Answers.{judged}
 use Rattle.state.specs.declared.Tag.{Tag}
 use Rattle.state.specs.State.{rules_of, reading_in}
@@ -29,7 +29,7 @@ module _ (t : Tag) (a : Asked) (iso : Bool) (h : Taps t a iso) where
   sound : sound_tag t ≡ true
   sound = sound-outcome t a.random a.room (has_reply t a h.reads.accepted)
 
-  good : judged 2 (rules_of t.files 2) ≡ Good
+  good : judged 2 (rules_of t.files 2) ≡ Ok tt
   good = rules-good t.files 2 (second-sound t sound)
 
   on : sdm_on (rules_of t.files 2) ≡ true

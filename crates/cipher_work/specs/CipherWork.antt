@@ -1,12 +1,11 @@
 -- 02, request 10: "For a mirrored read: 1 for PICCData if encrypted; 3 plus SDMENCLength divided by 32 if ENC is on; and, if SDMFileRead isn't F,
 -- 3 plus the larger of 1 and the MAC input length divided by 16 rounded up. Show that this never passes 28 and that one settings string
 -- reaches 28." And that no call passes 35 (readings).
-use Rattle.std.specs.Prelude.{Bool, true, List, ◌≡◌, ℕ, max, ◌+◌, ◌-◌, ◌/◌, ◌≤◌, eqb, leb}
+use Rattle.std.specs.Prelude.{Bool, true, List, ◌≡◌, ℕ, max, ◌+◌, ◌-◌, ◌/◌, ◌≤◌, eqb, leb, Ok}
 use Rattle.base.specs.Decide.{pick}
 use Rattle.fields.specs.declared.Head.{Head}
 use Rattle.fields.specs.declared.Settings.{Settings}
 use Rattle.fields.specs.Fields.{sdm_on, read_of}
-use Rattle.settings.specs.declared.Verdict.TheVariants.{Good}
 use Rattle.settings.specs.Answers.{judged}
 use Rattle.state.specs.declared.Tag.{Tag}
 use Rattle.state.specs.State.{rules_of}
@@ -36,7 +35,7 @@ MirroredFormula = (t : Tag) (a : Asked) (iso : Bool) → Taps t a iso → (said 
 
 -- never over 28: of every string with SDM on that the rules let through, and so of every mirrored read
 abbrev pub StringAtMost28 : Type 0
-StringAtMost28 = (s : List ℕ) → judged 2 s ≡ Good → sdm_on s ≡ true → mirrored_blocks (read_of s) ≤ 28
+StringAtMost28 = (s : List ℕ) → judged 2 s ≡ Ok tt → sdm_on s ≡ true → mirrored_blocks (read_of s) ≤ 28
 
 abbrev pub MirroredAtMost28 : Type 0
 MirroredAtMost28 = (t : Tag) (a : Asked) (iso : Bool) → Taps t a iso → (said t a).cost ≤ 28

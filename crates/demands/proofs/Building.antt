@@ -1,4 +1,5 @@
 -- A wrapped command as the other side builds it: its form and length, and that steps 1 to 5 pass it.
+use Rattle.std.specs.Prelude.{Err, Ok, Some}
 use mathlib.Core.Path.{◌≡◌, refl, sym, ◌∙◌, ap, subst}
 use mathlib.Core.Bool.{Bool, true, false}
 use mathlib.Core.List.{List, [], ◌∷◌, ◌++◌}
@@ -33,13 +34,10 @@ use Rattle.replies.specs.Answer.{Answer, costing}
 use Rattle.settings.specs.Filing.{file_status}
 use Rattle.order.specs.declared.Name.{Name}
 use Rattle.order.specs.declared.Name.TheVariants.{ChangeFileSettings}
-use Rattle.order.specs.declared.Named.TheVariants.{Known}
 use Rattle.order.specs.declared.Command.{Command}
-use Rattle.order.specs.declared.Ordered.{Ordered}
-use Rattle.order.specs.declared.Ordered.TheVariants.{Is, Refused}
 use Rattle.order.specs.Names.{class_of, ins_of, among, named}
 use Rattle.order.specs.Order.{form_right, command_data, order_status, header_length, names_key, byte_status, front_status, wrapped_status}
-use Rattle.order.specs.Commands.{wrapped_command, by_status, on_wrapped, wrapped_order, ordered}
+use Rattle.order.specs.Commands.{Ordered, wrapped_command, by_status, on_wrapped, wrapped_order, ordered}
 use Rattle.order.proofs.Placed.{wrapped_data}
 use Rattle.access.specs.declared.Grant.{Grant}
 use Rattle.access.specs.declared.Grant.TheVariants.{ByKey, ByTap, Free, Unasked, Never, Denied}
@@ -167,24 +165,24 @@ unfolding built wrapped_status
 built-status ins x pending application o f =
     way (λ s. s ≡ 0) (eqb (order_status ins 0 0 pending) 0) (λ z. ap (λ y. front_status ins y application) (built-part ins x) ∙ f) (λ z. o)
 
-module _ (ins : ℕ) (name : Name) (known : named 0x90 ins ≡ Known name) (x : List ℕ) (filled : 1 ≤ length x) (fits : length x ≤ 255) where
+module _ (ins : ℕ) (name : Name) (known : named 0x90 ins ≡ Some name) (x : List ℕ) (filled : 1 ≤ length x) (fits : length x ≤ 255) where
   abbrev it : Command
   it = wrapped_command name (built ins x)
 
   built-ordered : (pending application : Bool) (file : ℕ) → wrapped_status (built ins x) pending application ≡ 0
-      → ordered (built ins x) pending application file ≡ Is it
+      → ordered (built ins x) pending application file ≡ Ok it
   unfolding built ordered wrapped_order by_status
   built-ordered pending application file z =
       let c = built ins x in
       let l : length (built ins x) ≡ 6 + length x = built-length ins x in
       let short : or (ltb (length c) 4) (ltb 261 (length c)) ≡ false =
       both_false (le-ltb (length c) 4 (omega arith)) (le-ltb 261 (length c) (omega arith)) in
-      let R : Ordered → Type 0 = λ o. o ≡ Is it in
+      let R : Ordered → Type 0 = λ o. o ≡ Ok it in
       way R (or (ltb (length c) 4) (ltb 261 (length c))) (λ y. against y short)
       (λ y.
       way R (form_right c)
       (λ f.
-      subst (λ o. R (on_wrapped c pending application o)) (sym known) (subst (λ s. R (pick (eqb s 0) (Is it) (Refused s))) (sym z) refl))
+      subst (λ o. R (on_wrapped c pending application o)) (sym known) (subst (λ s. R (pick (eqb s 0) (Ok it) (Err s))) (sym z) refl))
       (against (built_form ins x filled)))
 
   pub built-answers : (t : Tag) (random : List ℕ) → wrapped_status (built ins x) t.pending.on t.place.application ≡ 0
@@ -205,7 +203,7 @@ unfolding front_status header_length byte_status names_key file_status one_of
 front-passes x application n l a e f g =
     rw (le-ltb (length x) 1 l, a, e, le-ltb 31 n (omega arith), ne_eqb n 0 (λ z. omega arith), le-ltb 3 n g) refl
 
-named-change : named 0x90 0x5F ≡ Known ChangeFileSettings
+named-change : named 0x90 0x5F ≡ Some ChangeFileSettings
 unfolding named among class_of ins_of
 named-change = refl
 

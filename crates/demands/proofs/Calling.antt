@@ -1,4 +1,6 @@
 -- What `call` promises is what the words of a series say: of one call, and of any series.
+use Rattle.std.specs.Prelude.{Option}
+use Rattle.access.specs.declared.Grant.{Grant}
 use mathlib.Core.Path.{◌≡◌, refl, sym, ◌∙◌, ap, ap₂}
 use mathlib.Core.List.{List, [], ◌∷◌}
 use Prim.Native.Nat.{ℕ}
@@ -9,14 +11,13 @@ use Rattle.replies.specs.Answer.{Answer}
 use Rattle.tag.specs.declared.Called.{Called}
 use Rattle.tag.specs.declared.Outcome.{Outcome}
 use Rattle.tag.specs.declared.Outcome.TheVariants.{Replied, SmallRoom, WrongRandom, Unsound}
-use Rattle.access.specs.declared.Noted.{Noted}
 use Rattle.tag.specs.Way.{answered, noted}
 use Rattle.tag.specs.Call.{reply_of, outcome_of, replied, unanswered, by_outcome, room_by, noted_by, cost_by, Calls}
 use Rattle.series.specs.Series.{Asked, step, after}
 use Rattle.demands.specs.Talks.{Said, heard, said, said_all, Had, saying, Speaks, Played, held, sayings, SpeaksAll}
 
 -- ---- each outcome
-says-outcome : (t : Tag) (x : Answer) (n : Noted) (room : List ℕ) (o : Outcome)
+says-outcome : (t : Tag) (x : Answer) (n : Option Grant) (room : List ℕ) (o : Outcome)
     → saying (record { result = by_outcome t x n o; room = room_by x room o })
     ≡ record { outcome = o; reply = heard x o; noted = noted_by n o; cost = cost_by x o }
 unfolding replied unanswered
@@ -27,7 +28,7 @@ says-outcome t x n room SmallRoom = refl
 says-outcome t x n room WrongRandom = refl
 says-outcome t x n room Unsound = refl
 
-rest-outcome : (t : Tag) (x : Answer) (n : Noted) (room : List ℕ) (o : Outcome)
+rest-outcome : (t : Tag) (x : Answer) (n : Option Grant) (room : List ℕ) (o : Outcome)
     → drop (by_outcome t x n o).length (room_by x room o) ≡ drop (by_outcome t x n o).length room
 unfolding replied unanswered
 rest-outcome t x n room Replied = drop-append_seam (reply_of x) (drop (length (reply_of x)) room)

@@ -1,4 +1,6 @@
 -- What an accepted ChangeFileSettings is, and what it leaves.
+use Rattle.std.specs.Prelude.{Err, Ok, Some}
+use Rattle.settings.specs.declared.Fault.TheVariants.{String, File}
 use mathlib.Core.Path.{◌≡◌, refl, sym, ◌∙◌, ap, subst}
 use mathlib.Core.Bool.{Bool, true, false}
 use mathlib.Core.List.{List}
@@ -12,14 +14,11 @@ use Rattle.messaging.specs.declared.Mode.{Mode}
 use Rattle.messaging.specs.Protect.{plain}
 use Rattle.settings.specs.declared.Status.{Status}
 use Rattle.settings.specs.declared.Status.TheVariants.{LengthError, ParameterError}
-use Rattle.settings.specs.declared.Verdict.{Verdict}
-use Rattle.settings.specs.declared.Verdict.TheVariants.{Good, Refused, WrongFile}
-use Rattle.settings.specs.Answers.{judged, status_word}
+use Rattle.settings.specs.Answers.{Verdict, judged, status_word}
 use Rattle.settings.specs.declared.FileFault.{FileFault}
 use Rattle.settings.specs.declared.FileFault.TheVariants.{OverThirtyOne, NoSuchFile}
 use Rattle.settings.specs.Filing.{file_fault_word, file_status}
 use Rattle.order.specs.declared.Name.TheVariants.{ChangeFileSettings}
-use Rattle.order.specs.declared.Named.TheVariants.{Known}
 use Rattle.order.specs.Names.{class_of, ins_of, among, named}
 use Rattle.order.specs.Order.{command_data, header_length, names_key, byte_status, front_status, wrapped_status}
 use Rattle.order.specs.Commands.{wrapped_command}
@@ -44,8 +43,8 @@ pub record Changed (t : Tag) (c : List ℕ) (u : Tag) : Type 0 where
   pub sent : Sent t c (byte_at (command_data c) 0) text mode
   pub idle : t.pending.on ≡ false
   pub place : file_status (byte_at (command_data c) 0) ≡ 0
-  pub good : judged (byte_at (command_data c) 0) text ≡ Good
-  pub is : u ≡ (by_verdict t (byte_at (command_data c) 0) (reading_in t.files (byte_at (command_data c) 0)) text mode Good).tag
+  pub good : judged (byte_at (command_data c) 0) text ≡ Ok tt
+  pub is : u ≡ (by_verdict t (byte_at (command_data c) 0) (reading_in t.files (byte_at (command_data c) 0)) text mode (Ok tt)).tag
 
 -- ---- statuses that refuse
 word_bars : (e : Status) → Bars (status_word e)
@@ -68,7 +67,7 @@ front_place : (x : List ℕ) (application : Bool) → eqb (front_status 0x5F x a
 unfolding front_status byte_status names_key one_of
 front_place x application = front-file (ltb (length x) (header_length 0x5F)) application (file_status (byte_at x 0))
 
-change_known : named 0x90 0x5F ≡ Known ChangeFileSettings
+change_known : named 0x90 0x5F ≡ Some ChangeFileSettings
 unfolding named among class_of ins_of
 change_known = refl
 
@@ -101,9 +100,9 @@ module _ (t : Tag) (c random : List ℕ) (class : byte_at c 0 ≡ 0x90) (command
   verdict_change : (p : List ℕ) (m : Mode) → Sent t c n p m → t.pending.on ≡ false → file_status n ≡ 0 → (v : Verdict) → judged n p ≡ v
       → P (by_verdict t n (reading_in t.files n) p m v)
   unfolding n
-  verdict_change p m s i f Good e = λ h. record { mode = m; text = p; sent = s; idle = i; place = f; good = e; is = refl }
-  verdict_change p m s i f (Refused r) e = refused (status_word r) (word_bars r)
-  verdict_change p m s i f (WrongFile x) e = refused (file_fault_word x) (fault_bars x)
+  verdict_change p m s i f (Ok _) e = λ h. record { mode = m; text = p; sent = s; idle = i; place = f; good = e; is = refl }
+  verdict_change p m s i f (Err (String r)) e = refused (status_word r) (word_bars r)
+  verdict_change p m s i f (Err (File x)) e = refused (file_fault_word x) (fault_bars x)
 
   own-change : t.pending.on ≡ false → file_status n ≡ 0
       → allows (decided ChangeFileSettings t.live (reading_in t.files n).settings.head).grant ≡ true → (p : List ℕ)

@@ -1,4 +1,5 @@
 -- A wrapped command is refused with a status that does not accept, or comes to its own values.
+use Rattle.std.specs.Prelude.{Err, Ok, Some}
 use mathlib.Core.Path.{◌≡◌, refl, sym, subst}
 use mathlib.Core.Bool.{Bool, true, false}
 use mathlib.Core.List.{List, [], ◌∷◌}
@@ -8,19 +9,16 @@ use lib.ListN.{length}
 use borrow.Author.Tests.{eq-eqb}
 use Rattle.base.specs.Decide.{and, or, one_of}
 use Rattle.base.specs.Bytes.{byte_at}
-use Rattle.opening.specs.declared.Opened.TheVariants.{WrongLength, WrongMac, WrongPadding}
+use Rattle.opening.specs.declared.NotOpened.TheVariants.{WrongLength, WrongMac, WrongPadding}
 use Rattle.messaging.specs.Protect.{Opening, plain, wrong_length, wrong_mac, wrong_padding}
 use Rattle.opening.specs.Command.{opened_status}
 use Rattle.settings.specs.Filing.{file_status}
 use Rattle.spans.specs.declared.Reading.{Reading}
 use Rattle.order.specs.declared.Name.{Name}
-use Rattle.order.specs.declared.Named.TheVariants.{Known}
 use Rattle.order.specs.declared.Command.{Command}
-use Rattle.order.specs.declared.Ordered.{Ordered}
-use Rattle.order.specs.declared.Ordered.TheVariants.{Is}
 use Rattle.order.specs.Names.{named}
 use Rattle.order.specs.Order.{form_right, command_data, order_status, header_length, names_key, key_status, byte_status, front_status, wrapped_status}
-use Rattle.order.specs.Commands.{wrapped_command, by_status, on_wrapped, wrapped_order, ordered, data_of}
+use Rattle.order.specs.Commands.{Ordered, wrapped_command, by_status, on_wrapped, wrapped_order, ordered, data_of}
 use Rattle.order.proofs.Placed.{wrapped_data}
 use Rattle.access.specs.declared.Grant.{Grant}
 use Rattle.access.specs.declared.Grant.TheVariants.{ByKey, ByTap, Free, Unasked, Never, Denied}
@@ -93,15 +91,15 @@ denied_bars : Bars (grant_status 0x90 Denied)
 unfolding accepting grant_status
 denied_bars = refl
 
-wrong_length_bars : Bars (opened_status WrongLength)
+wrong_length_bars : Bars (opened_status (Err WrongLength))
 unfolding accepting opened_status
 wrong_length_bars = refl
 
-mac_bars : Bars (opened_status WrongMac)
+mac_bars : Bars (opened_status (Err WrongMac))
 unfolding accepting opened_status
 mac_bars = refl
 
-padding_bars : Bars (opened_status WrongPadding)
+padding_bars : Bars (opened_status (Err WrongPadding))
 unfolding accepting opened_status
 padding_bars = refl
 
@@ -125,9 +123,9 @@ module _ (t : Tag) (random : List ℕ) (P : Answer → Type 0) (refused : (s : �
     opening_comes : allows d.grant ≡ true → Owns → (o : Opening) → opening_of t k x d.mode ≡ o → P (on_opening t k r d random o)
     unfolding wrapped_command
     opening_comes a h (plain p) e = h a p e
-    opening_comes a h wrong_length e = refused (opened_status WrongLength) wrong_length_bars
-    opening_comes a h wrong_mac e = refused (opened_status WrongMac) mac_bars
-    opening_comes a h wrong_padding e = refused (opened_status WrongPadding) padding_bars
+    opening_comes a h wrong_length e = refused (opened_status (Err WrongLength)) wrong_length_bars
+    opening_comes a h wrong_mac e = refused (opened_status (Err WrongMac)) mac_bars
+    opening_comes a h wrong_padding e = refused (opened_status (Err WrongPadding)) padding_bars
 
     step7_comes : allows d.grant ≡ true → Costs → Owns → P (from_step7 t k r d x random)
     unfolding from_step7 wrapped wrapped_command
@@ -156,12 +154,12 @@ module _ (t : Tag) (random : List ℕ) (P : Answer → Type 0) (refused : (s : �
   abbrev Asks : Name → Type 0
   Asks name = (k : Command) (r : Reading) (x : List ℕ) → commanded name t k r x random ≡ from_step6 t k r x random
 
-  module _ (name : Name) (c : List ℕ) (n : ℕ) (class : byte_at c 0 ≡ 0x90) (known : named 0x90 (byte_at c 1) ≡ Known name) where
+  module _ (name : Name) (c : List ℕ) (n : ℕ) (class : byte_at c 0 ≡ 0x90) (known : named 0x90 (byte_at c 1) ≡ Some name) where
     abbrev Q : Ordered → Type 0
     Q o = P (on_order t c random o)
 
     known_comes : (wrapped_command name c).file ≡ n → Asks name → Costs name c (command_data c) (reading_in t.files n)
-        → Owns name c (command_data c) (reading_in t.files n) → Q (Is (wrapped_command name c))
+        → Owns name c (command_data c) (reading_in t.files n) → Q (Ok (wrapped_command name c))
     unfolding wrapped_command
     known_comes file asks costs h =
         let k = wrapped_command name c in

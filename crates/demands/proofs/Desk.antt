@@ -1,5 +1,6 @@
 -- At the binder's desk: a tag opens a session with key 0 as delivered, changes its settings under it, and changes key 0. AES is not computed here: what
 -- both ends of an authentication and of a message know of each other goes by their laws.
+use Rattle.std.specs.Prelude.{Some}
 use mathlib.Core.Path.{◌≡◌, refl, sym, subst, ap, ◌∙◌}
 use mathlib.Core.Bool.{true, false}
 use mathlib.Core.List.{List, [], ◌∷◌, ◌++◌}
@@ -26,7 +27,6 @@ use Rattle.fields.specs.declared.Settings.{Settings}
 use Rattle.fields.specs.Fields.{string_of}
 use Rattle.rules.specs.Rules.{meets}
 use Rattle.order.specs.declared.Name.TheVariants.{AuthenticateFirst, PartTwo as PartTwoCommand, ChangeKey}
-use Rattle.order.specs.declared.Named.TheVariants.{Known}
 use Rattle.order.specs.Names.{class_of, ins_of, among, named}
 use Rattle.order.specs.declared.Command.{Command}
 use Rattle.order.specs.Order.{order_status, header_length, has_data, names_key, byte_status, front_status, key_status}
@@ -81,11 +81,11 @@ unfolding call_passes
 replied-passes t a x o e p = rw (o, e) p
 
 -- ---- the two parts
-named_first : named 0x90 0x71 ≡ Known AuthenticateFirst
+named_first : named 0x90 0x71 ≡ Some AuthenticateFirst
 unfolding named among class_of ins_of
 named_first = refl
 
-named_two : named 0x90 0xAF ≡ Known PartTwoCommand
+named_two : named 0x90 0xAF ≡ Some PartTwoCommand
 unfolding named among class_of ins_of
 named_two = refl
 
@@ -198,7 +198,7 @@ ones_bytes zero i = lit< tt
 ones_bytes (suc n) zero = lit< tt
 ones_bytes (suc n) (suc i) = ones_bytes n i
 
-named-key : named 0x90 0xC4 ≡ Known ChangeKey
+named-key : named 0x90 0xC4 ≡ Some ChangeKey
 unfolding named among class_of ins_of
 named-key = refl
 

@@ -1,4 +1,5 @@
 -- What locking means (specs/Locking.antt): no right that is F is granted, and a write or a change of another file stays in its own place.
+use Rattle.std.specs.Prelude.{Ok}
 use mathlib.Core.Path.{◌≡◌, refl, sym, subst, ap, ◌∙◌}
 use mathlib.Core.Bool.{Bool, true, false}
 use mathlib.Core.List.{List, [], ◌∷◌}
@@ -11,7 +12,6 @@ use borrow.Author.Tests.{eqb-true, eq-eqb, ne_eqb, leb-true}
 use Rattle.base.specs.Decide.{pick, and}
 use Rattle.base.proofs.Bytes.{le_or_lt, and_left, and_right}
 use Rattle.messaging.specs.declared.Mode.{Mode}
-use Rattle.settings.specs.declared.Verdict.TheVariants.{Good}
 use Rattle.settings.specs.Answers.{judged}
 use Rattle.fields.specs.declared.Head.{Head}
 use Rattle.fields.specs.Fields.{read_of}
@@ -107,7 +107,7 @@ module _ (t : Tag) (n : ℕ) (l : Locked t n) (key : t.live.on ≡ true → t.li
   write_keeps m at p w = record { bytes = written-bytes m at p w; string = refl; slot = refl }
 
   -- ---- another file's string has another place
-  change_keeps : (c : List ℕ) (m : ℕ) (p : List ℕ) (mode : Mode) → Sent t c m p mode → judged m p ≡ Good
+  change_keeps : (c : List ℕ) (m : ℕ) (p : List ℕ) (mode : Mode) → Sent t c m p mode → judged m p ≡ Ok tt
       → Unchanged t.files (with_rules t.files m (pad_out p) (length p)) n
   unfolding file_of with_rules grant_for
   change_keeps c m p mode s g =

@@ -1,4 +1,5 @@
 -- Two accepted changes behave alike exactly when their strings have one normal form.
+use Rattle.std.specs.Prelude.{Ok}
 use mathlib.Core.Path.{◌≡◌, refl, sym, ◌∙◌, ap, ap₂, subst}
 use mathlib.Core.Bool.{Bool, true, false}
 use mathlib.Core.List.{List, [], ◌∷◌, ◌++◌}
@@ -15,7 +16,6 @@ use Rattle.messaging.specs.declared.Mode.{Mode}
 use Rattle.messaging.specs.declared.Mode.TheVariants.{Plain}
 use Rattle.messaging.specs.Protect.{signed, sent}
 use Rattle.closing.specs.Reply.{closed, closed_length, overlong}
-use Rattle.settings.specs.declared.Verdict.TheVariants.{Good}
 use Rattle.fields.specs.Fields.{sdm_on}
 use Rattle.fields.specs.Normal.{normal}
 use Rattle.meanings.proofs.NormalForm.{normal-length, normal-sdm}
@@ -64,7 +64,7 @@ module _ (t : Tag) (c d : List ℕ) (u v : Tag) (h : Changed t c u) (k : Changed
       let put : Bool → List ℕ → ℕ → Tag =
       λ o s i. (accepted (restrung t before o (with_rules t.files n (s ++ replicate (27 - i) 0) i)) k.mode []).tag in
       h.is
-      ∙ ap₂ (λ j m. (by_verdict t j (reading_in t.files j) h.text m Good).tag) file one_mode
+      ∙ ap₂ (λ j m. (by_verdict t j (reading_in t.files j) h.text m (Ok tt)).tag) file one_mode
       ∙ ap (λ o. put o (normal h.text) (length h.text)) on
       ∙ ap₂ (put (sdm_on k.text)) e l
       ∙ sym k.is

@@ -2,6 +2,7 @@
 -- application, no part two pending, that grants the change, with a command counter below 65,535 (or no session), accepts it in the
 -- due mode: plain under E, wrapped with the session's keys under the key; the reply is 9100, with its MAC in Full, and the file
 -- then holds that string.
+use Rattle.std.specs.Prelude.{Ok}
 use mathlib.Core.Path.{◌≡◌, refl, sym, ◌∙◌, ap, subst}
 use mathlib.Core.Bool.{Bool, true, false}
 use mathlib.Core.List.{List, [], ◌∷◌, ◌++◌}
@@ -25,7 +26,6 @@ use Rattle.both_ends.proofs.Messages.{sent-command_opens}
 use Rattle.fields.specs.declared.Head.{Head}
 use Rattle.fields.specs.declared.Settings.{Settings}
 use Rattle.spans.specs.declared.Reading.{Reading}
-use Rattle.settings.specs.declared.Verdict.TheVariants.{Good}
 use Rattle.settings.specs.Answers.{judged}
 use Rattle.fields.specs.Fields.{read_of, string_of}
 use Rattle.rules.specs.Rules.{meets}
@@ -110,7 +110,7 @@ module _ (t : Tag) (n : ℕ) (m : Mode) (s : List ℕ) where
   carried-filled = wrapped-filled (session_of t.live) m _ n s
 
   module _ (k : IsBlock t.live.enc) (b : AllBytes s) where
-    carried-short : judged n s ≡ Good → length (carried t m n s) ≤ 255
+    carried-short : judged n s ≡ Ok tt → length (carried t m n s) ≤ 255
     unfolding carried session_of
     carried-short g =
         let l : length (carried t m n s) ≤ length (n ∷ []) + length s + 24 = wrapped_bound (session_of t.live) m _ (n ∷ []) s k b in
@@ -136,7 +136,7 @@ module _ (t : Tag) (n : ℕ) (m : Mode) (s x : List ℕ) (random : List ℕ) (P 
   d = decided ChangeFileSettings t.live r.settings.head
 
   -- step 9: a good string is stored
-  own-accepts : judged n s ≡ Good → k.file ≡ n → d.mode ≡ m
+  own-accepts : judged n s ≡ Ok tt → k.file ≡ n → d.mode ≡ m
       → P (given_for (closed_cost m 0) (changed t n s) 0x9100 (closed (session_of (raised t.live)) m 0 []))
       → P (own ChangeFileSettings t k r d s random)
   unfolding own changed_settings accepted changed restrung pad_out tapped filed

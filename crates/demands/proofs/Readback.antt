@@ -1,4 +1,5 @@
 -- Read and written alike: GetFileSettings gives the string that was accepted, in its normal form.
+use Rattle.std.specs.Prelude.{Some}
 use mathlib.Core.Path.{◌≡◌, refl, sym, ◌∙◌, ap, subst}
 use mathlib.Core.Bool.{true, not}
 use mathlib.Core.List.{List, [], ◌∷◌}
@@ -14,7 +15,6 @@ use Rattle.messaging.specs.declared.Mode.TheVariants.{Plain, Mac}
 use Rattle.closing.specs.Reply.{overlong, closed_status}
 use Rattle.fields.specs.Normal.{normal}
 use Rattle.order.specs.declared.Name.TheVariants.{GetFileSettings}
-use Rattle.order.specs.declared.Named.TheVariants.{Known}
 use Rattle.order.specs.Names.{class_of, ins_of, among, named}
 use Rattle.order.specs.Order.{command_data, header_length, names_key}
 use Rattle.order.specs.Commands.{wrapped_command}
@@ -33,7 +33,7 @@ use Rattle.demands.specs.Talks.{string_in, changes, last_change, untouched, asks
 use Rattle.demands.proofs.Coming.{Bars, length_bars, comes}
 use Rattle.demands.proofs.Series.{last_none, last_more, series_leaves}
 
-read_known : named 0x90 0xF5 ≡ Known GetFileSettings
+read_known : named 0x90 0xF5 ≡ Some GetFileSettings
 unfolding named among class_of ins_of
 read_known = refl
 

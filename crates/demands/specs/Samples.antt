@@ -1,5 +1,5 @@
 -- Samples: tags and calls that meet the premises of the theorems, and what fails without one of them.
-use Rattle.std.specs.Prelude.{Bool, true, false, List, [], ◌∷◌, ◌++◌, ◌≡◌, ℕ, replicate}
+use Rattle.std.specs.Prelude.{Bool, true, false, List, [], ◌∷◌, ◌++◌, ◌≡◌, ℕ, replicate, Some}
 use Rattle.messaging.specs.declared.Mode.TheVariants.{Plain}
 use Rattle.fields.specs.declared.Settings.{Settings}
 use Rattle.fields.specs.Fields.{read_of, string_of}
@@ -12,7 +12,6 @@ use Rattle.soundness.specs.Sound.{sound_tag}
 use Rattle.replies.specs.Answer.{Answer}
 use Rattle.details.specs.Details.{settings_reply}
 use Rattle.access.specs.declared.Grant.TheVariants.{Unasked}
-use Rattle.access.specs.declared.Noted.TheVariants.{Decided}
 use Rattle.tag.specs.declared.Outcome.TheVariants.{Replied, SmallRoom, WrongRandom, Unsound}
 use Rattle.tag.specs.Way.{answered}
 use Rattle.tag.specs.Call.{outcome_of}
@@ -109,8 +108,8 @@ changed_by t option = answered t (change_to option) zeros20
 -- and for no blocks
 unfoldable pub told_of : ℕ → List Said
 told_of option =
-    record { outcome = Replied; reply = 0x90 ∷ 0x00 ∷ []; noted = Decided Unasked; cost = 0 }
-    ∷ record { outcome = Replied; reply = 0x00 ∷ option ∷ 0xEE ∷ 0xEE ∷ 0x00 ∷ 0x01 ∷ 0x00 ∷ 0x91 ∷ 0x00 ∷ []; noted = Decided Unasked; cost = 0 }
+    record { outcome = Replied; reply = 0x90 ∷ 0x00 ∷ []; noted = Some Unasked; cost = 0 }
+    ∷ record { outcome = Replied; reply = 0x00 ∷ option ∷ 0xEE ∷ 0xEE ∷ 0x00 ∷ 0x01 ∷ 0x00 ∷ 0x91 ∷ 0x00 ∷ []; noted = Some Unasked; cost = 0 }
     ∷ []
 
 -- ---- demand 3, statement 1: two strings with one normal form (mode bits 10 and 00), and one with another (11)

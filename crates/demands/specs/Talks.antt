@@ -1,5 +1,6 @@
 -- What a series of calls says, and the last change of a file's settings that was accepted in it.
-use Rattle.std.specs.Prelude.{Bool, true, not, List, [], ◌∷◌, ◌++◌, ◌≡◌, ℕ, eqb, take, drop, replicate}
+use Rattle.access.specs.declared.Grant.{Grant}
+use Rattle.std.specs.Prelude.{Bool, true, not, List, [], ◌∷◌, ◌++◌, ◌≡◌, ℕ, eqb, take, drop, replicate, Option}
 use Rattle.base.specs.Decide.{pick, and}
 use Rattle.base.specs.Bytes.{byte_at}
 use Rattle.messaging.specs.declared.Mode.TheVariants.{Plain, Mac}
@@ -9,7 +10,6 @@ use Rattle.fields.specs.Normal.{normal}
 use Rattle.state.specs.declared.Tag.{Tag}
 use Rattle.state.specs.State.{size_of, reading_in, session_of}
 use Rattle.delivery.specs.Fresh.{first_rules, second_rules, third_rules}
-use Rattle.access.specs.declared.Noted.{Noted}
 use Rattle.access.specs.Access.{decided}
 use Rattle.replies.specs.Answer.{Answer, raised}
 use Rattle.details.specs.Details.{settings_reply}
@@ -29,7 +29,7 @@ use Rattle.series.specs.Worked.{select_application, settings_of}
 pub record Said : Type 0 where
   pub outcome : Outcome
   pub reply : List ℕ
-  pub noted : Noted
+  pub noted : Option Grant
   pub cost : ℕ
 
 abbrev pub heard : Answer → Outcome → List ℕ

@@ -1,4 +1,5 @@
 -- What an accepted read of file 2 answers, without a session and with SDM on: the part asked for of what the tap shows.
+use Rattle.std.specs.Prelude.{Ok, Some}
 use mathlib.Core.Path.{◌≡◌, refl, sym, ap, ap₂, subst, ◌∙◌}
 use mathlib.Core.Bool.{Bool, true, false, not}
 use mathlib.Core.List.{List, [], ◌∷◌}
@@ -19,13 +20,10 @@ use Rattle.opening.proofs.Opening.{opening-plain}
 use Rattle.state.specs.State.{size_of, reading_in, tapped, session_of}
 use Rattle.order.specs.declared.Name.{Name}
 use Rattle.order.specs.declared.Name.TheVariants.{ReadData, IsoReadBinary}
-use Rattle.order.specs.declared.Named.TheVariants.{Known}
 use Rattle.order.specs.declared.Command.{Command}
-use Rattle.order.specs.declared.Ordered.{Ordered}
-use Rattle.order.specs.declared.Ordered.TheVariants.{Is}
 use Rattle.order.specs.Names.{class_of, ins_of, among, named}
 use Rattle.order.specs.Order.{command_data, header_length, names_key, iso_form, lc_of, has_le, fits, on_file_status, iso_status}
-use Rattle.order.specs.Commands.{wrapped_command, iso_command, by_status, on_iso, iso_order, ordered, data_of}
+use Rattle.order.specs.Commands.{Ordered, wrapped_command, iso_command, by_status, on_iso, iso_order, ordered, data_of}
 use Rattle.access.specs.declared.Grant.{Grant}
 use Rattle.access.specs.declared.Grant.TheVariants.{ByKey, ByTap, Free, Unasked, Never, Denied}
 use Rattle.access.specs.declared.Decision.{Decision}
@@ -143,7 +141,7 @@ module _ (t : Tag) (random : List ℕ) (free : t.live.on ≡ false) (sdm : (read
         way (P false k.offset count) d.tap (λ b. tap_gives false k.offset count) (λ b. absurd (not_both (sym b ∙ tap_on ReadData refl))))
         (λ e. refused false k.offset count _ (range_bars k.offset k.count (size_of k.file)))
 
-    read_known : named 0x90 0xAD ≡ Known ReadData
+    read_known : named 0x90 0xAD ≡ Some ReadData
     unfolding named among class_of ins_of
     read_known = refl
 
@@ -249,11 +247,11 @@ module _ (t : Tag) (random : List ℕ) (free : t.live.on ≡ false) (sdm : (read
     abbrev Q : Ordered → Type 0
     Q o = R (on_order t c random o)
 
-    iso_known : leb 1 (lc_of c) ≡ false → Q (Is (iso_command IsoReadBinary c t.place.file))
+    iso_known : leb 1 (lc_of c) ≡ false → Q (Ok (iso_command IsoReadBinary c t.place.file))
     unfolding commanded iso_command
-    iso_known none = subst (λ f. Q (Is (iso_command IsoReadBinary c f))) (sym file) (iso_step6 (data_of j c) none)
+    iso_known none = subst (λ f. Q (Ok (iso_command IsoReadBinary c f))) (sym file) (iso_step6 (data_of j c) none)
 
-    iso_named : named 0x00 0xB0 ≡ Known IsoReadBinary
+    iso_named : named 0x00 0xB0 ≡ Some IsoReadBinary
     unfolding named among class_of ins_of
     iso_named = refl
 

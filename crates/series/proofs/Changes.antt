@@ -1,5 +1,6 @@
 -- A status other than 9000, 9100 and 91AF has no data and only ends what runs; files, settings, keys and versions change only with an
 -- accepting reply.
+use Rattle.std.specs.Prelude.{Err}
 use mathlib.Core.Path.{◌≡◌, refl, sym, ◌∙◌, ap}
 use mathlib.Core.Bool.{Bool, true, false}
 use mathlib.Core.List.{List, []}
@@ -9,7 +10,7 @@ use lib.ListN.{length}
 use Rattle.base.specs.Decide.{pick, and, or}
 use Rattle.messaging.specs.declared.Mode.{Mode}
 use Rattle.messaging.specs.declared.Mode.TheVariants.{Plain, Mac, Full}
-use Rattle.closing.specs.declared.Closed.TheVariants.{Over}
+use Rattle.closing.specs.declared.NotClosed.TheVariants.{TooLong}
 use Rattle.closing.specs.Reply.{overlong, closed_length, hidden_length, closed_status}
 use Rattle.state.specs.declared.Pending.{Pending}
 use Rattle.state.specs.declared.Tag.{Tag}
@@ -77,7 +78,7 @@ by_status_lem t c random P on-accepting on-refusal on-begun on-cost =
       refuses = on-refusal;
       begins = λ p k a. on-begun p;
       enters = λ p kx a. way P t.pending.first (λ e. fair _ 0x9100 _ yes_9100) (λ e. fair _ 0x9100 _ yes_9100);
-      answers = λ m d. way P (overlong m (length d)) (λ e. on-refusal (closed_status Over)) (λ e. fair _ 0x9100 _ yes_9100);
+      answers = λ m d. way P (overlong m (length d)) (λ e. on-refusal (closed_status (Err TooLong))) (λ e. fair _ 0x9100 _ yes_9100);
       rekeys = λ s. on-accepting (accepted _ Full []) (accepted_none _ Full);
       rekeys_first = λ s. fair _ 0x9100 _ yes_9100;
       writes = λ n at p m w. on-accepting (accepted _ m []) (accepted_none _ m);

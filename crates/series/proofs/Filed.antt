@@ -1,4 +1,5 @@
 -- The files that an answer leaves: those that were, with other bytes of a file that is written, or with another settings string.
+use Rattle.std.specs.Prelude.{Ok}
 use mathlib.Core.List.{List, []}
 use mathlib.Core.Path.{◌≡◌}
 use Prim.Native.Nat.{ℕ}
@@ -6,7 +7,6 @@ use lib.Dec.{eqb}
 use lib.ListN.{length}
 use Rattle.messaging.specs.declared.Mode.{Mode}
 use Rattle.closing.specs.Reply.{overlong}
-use Rattle.settings.specs.declared.Verdict.TheVariants.{Good}
 use Rattle.settings.specs.Answers.{judged}
 use Rattle.state.specs.declared.Files.{Files}
 use Rattle.state.specs.declared.Tag.{Tag}
@@ -28,7 +28,7 @@ use Rattle.series.proofs.Settled.{pad_out}
 pub record Filings (t : Tag) (c : List ℕ) (Q : Files → Type 0) : Type 0 where
   pub stays : Q t.files
   pub writes : (n at : ℕ) (p : List ℕ) → Puts t n at p → Q (with_bytes t.files n at p)
-  pub restrings : (n : ℕ) (p : List ℕ) (m : Mode) → Sent t c n p m → judged n p ≡ Good → Q (with_rules t.files n (pad_out p) (length p))
+  pub restrings : (n : ℕ) (p : List ℕ) (m : Mode) → Sent t c n p m → judged n p ≡ Ok tt → Q (with_rules t.files n (pad_out p) (length p))
 
 module _ (t : Tag) (c random : List ℕ) (Q : Files → Type 0) (h : Filings t c Q) where
   abbrev Leaves : Answer → Type 0

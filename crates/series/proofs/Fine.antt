@@ -1,4 +1,5 @@
 -- A sound state, clause by clause; what ends, other keys and other bytes leave it sound.
+use Rattle.std.specs.Prelude.{Err}
 use mathlib.Core.Path.{◌≡◌}
 use mathlib.Core.Bool.{true, false}
 use mathlib.Core.List.{List}
@@ -9,7 +10,7 @@ use Rattle.base.specs.Decide.{and}
 use Rattle.base.specs.Bytes.{byte_at}
 use Rattle.base.proofs.Bytes.{and_left, and_right}
 use Rattle.messaging.specs.declared.Mode.{Mode}
-use Rattle.closing.specs.declared.Closed.TheVariants.{Over}
+use Rattle.closing.specs.declared.NotClosed.TheVariants.{TooLong}
 use Rattle.closing.specs.Reply.{overlong, closed_status}
 use Rattle.state.specs.declared.Files.{Files}
 use Rattle.state.specs.declared.Secrets.{Secrets}
@@ -140,7 +141,7 @@ fine_refused t c s = fine_ended t c
 
 pub fine_accepted : (t : Tag) → Calm t → (m : Mode) (d : List ℕ) → FineAfter (accepted t m d)
 unfolding accepted
-fine_accepted t c m d = way FineAfter (overlong m (length d)) (λ e. fine_refused t c (closed_status Over)) (λ e. fine_after t c)
+fine_accepted t c m d = way FineAfter (overlong m (length d)) (λ e. fine_refused t c (closed_status (Err TooLong))) (λ e. fine_after t c)
 
 -- ---- other keys, other bytes
 pub calm_keyed : (t : Tag) → Calm t → (s : Secrets) → Calm (keyed t s)

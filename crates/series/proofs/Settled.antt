@@ -1,4 +1,6 @@
 -- Accepted settings leave a sound state sound, and SDM is on in file 2 alone.
+use Rattle.std.specs.Prelude.{Err, Ok}
+use Rattle.settings.specs.declared.Fault.TheVariants.{File}
 use mathlib.Core.Path.{◌≡◌, refl, sym, ◌∙◌, ap, ap₂, subst}
 use mathlib.Core.Bool.{Bool, true, false, not}
 use mathlib.Core.List.{List, [], ◌∷◌, ◌++◌}
@@ -15,7 +17,6 @@ use Rattle.base.proofs.Bytes.{le_or_lt, laid-length, same_refl, and_left}
 use Rattle.messaging.specs.declared.Mode.{Mode}
 use Rattle.spans.specs.declared.Reading.{Reading}
 use Rattle.settings.specs.declared.FileFault.TheVariants.{OverThirtyOne, NoSuchFile}
-use Rattle.settings.specs.declared.Verdict.TheVariants.{Good, WrongFile}
 use Rattle.settings.specs.Answers.{verdict_of, judged}
 use Rattle.fields.specs.Normal.{normal}
 use Rattle.fields.specs.Fields.{read_of, head_of, sdm_on}
@@ -39,7 +40,7 @@ use Rattle.series.proofs.Clauses.{level-file, level_on, level-selected, alone_ta
 use Rattle.series.proofs.Fine.{Calm, Fine, FineAfter, fine_refused, fine_accepted}
 
 -- ---- other settings
-normal-sound : (f : Files) (n : ℕ) (s : List ℕ) → byte_at f.lens (slot_of n) ≤ 27 → rules_of f n ≡ s → judged n s ≡ Good → normal s ≡ s
+normal-sound : (f : Files) (n : ℕ) (s : List ℕ) → byte_at f.lens (slot_of n) ≤ 27 → rules_of f n ≡ s → judged n s ≡ Ok tt → normal s ≡ s
     → rules_sound f n ≡ true
 unfolding rules_sound
 normal-sound f n s l e g h = rw (le-leb (byte_at f.lens (slot_of n)) 27 l, e, g, h) (same_refl s)
@@ -48,25 +49,25 @@ unfoldable pub pad_out : List ℕ → List ℕ
 pad_out p = normal p ++ replicate (27 - length p) 0
 
 -- a string is accepted only for a file that there is
-pub good-file : (n : ℕ) (p : List ℕ) → judged n p ≡ Good → slot_of n ≤ 2
+pub good-file : (n : ℕ) (p : List ℕ) → judged n p ≡ Ok tt → slot_of n ≤ 2
 unfolding judged
 good-file n p = by (ltb 31 n) (eqb n 0) (ltb 3 n) refl refl
   where
     by : (over none past : Bool) → eqb n 0 ≡ none → ltb 3 n ≡ past
-        → pick over (WrongFile OverThirtyOne) (pick (or none past) (WrongFile NoSuchFile) (verdict_of (found (rules n p)))) ≡ Good → slot_of n ≤ 2
+        → pick over (Err (File OverThirtyOne)) (pick (or none past) (Err (File NoSuchFile)) (verdict_of (found (rules n p)))) ≡ Ok tt → slot_of n ≤ 2
     by true none past z l e = let x : ◌≡◌ {A = ℕ} 0 1 = cc in absurd (omega arith)
     by false true past z l e = let x : ◌≡◌ {A = ℕ} 0 1 = cc in absurd (omega arith)
     by false false true z l e = let x : ◌≡◌ {A = ℕ} 0 1 = cc in absurd (omega arith)
     by false false false z l e = let o = eqb-false n 0 z in small n (⊎_elim (λ h. absurd (o (omega arith))) (λ h. h) (le_or_lt n 0)) (ltb-false 3 n l)
 
 -- an accepted string fills its place
-pub whole : (n : ℕ) (p : List ℕ) → judged n p ≡ Good → length (pad_out p) ≡ 27
+pub whole : (n : ℕ) (p : List ℕ) → judged n p ≡ Ok tt → length (pad_out p) ≡ 27
 unfolding pad_out
 whole n p g =
     let h : length p ≤ 27 = (good_length n p g).1 in
     length-append (normal p) (replicate (27 - length p) 0) ∙ ap₂ ◌+◌ (normal-length p) (length-replicate (27 - length p) 0) ∙ omega arith
 
-module _ (f : Files) (r : length f.rules ≡ 81) (l : length f.lens ≡ 3) (n : ℕ) (p : List ℕ) (g : judged n p ≡ Good) where
+module _ (f : Files) (r : length f.rules ≡ 81) (l : length f.lens ≡ 3) (n : ℕ) (p : List ℕ) (g : judged n p ≡ Ok tt) where
   front : take (length p) (pad_out p) ≡ normal p
   unfolding pad_out
   front = take_at (normal p) (replicate (27 - length p) 0) (length p) (normal-length p)
@@ -84,7 +85,7 @@ module _ (f : Files) (r : length f.rules ≡ 81) (l : length f.lens ≡ 3) (n : 
           let b : byte_at (with_rules f n (pad_out p) (length p)).lens (slot_of k) ≡ length p = length_same n k f (pad_out p) (length p) l s h in
           let z : length p ≤ 27 = (good_length n p g).1 in
           normal-sound (with_rules f n (pad_out p) (length p)) k (normal p) (omega (arith, b, z)) (restored k s h)
-          (subst (λ j. judged j (normal p) ≡ Good) (same_slot n k s h) (normal-good n p g).0) (normal_twice p)
+          (subst (λ j. judged j (normal p) ≡ Ok tt) (same_slot n k s h) (normal-good n p g).0) (normal_twice p)
       by false q =
           let o : slot_of n ≡ slot_of k → ⊥ = λ s. not_both (sym q ∙ eq-eqb (slot_of n) (slot_of k) s) in
           rw (length_other n k f (pad_out p) (length p) o, slot_other n k f (pad_out p) (length p) (whole n p g) o) e
@@ -102,7 +103,7 @@ counter-restrung : (b : Bool) (counter : ℕ) → leb counter 16777215 ≡ true 
 counter-restrung true counter e = refl
 counter-restrung false counter e = e
 
-pub calm_restrung : (t : Tag) → Calm t → (n : ℕ) (p : List ℕ) → judged n p ≡ Good → (before on : Bool)
+pub calm_restrung : (t : Tag) → Calm t → (n : ℕ) (p : List ℕ) → judged n p ≡ Ok tt → (before on : Bool)
     → Calm (restrung t before on (with_rules t.files n (pad_out p) (length p)))
 unfolding restrung recounted tapped filed
 calm_restrung t c n p g before on =
@@ -125,7 +126,7 @@ calm_restrung t c n p g before on =
       level = c.level;
     }
 
-pub fine_restrung : (t : Tag) → Calm t → (n : ℕ) (r : Reading) (p : List ℕ) (m : Mode) → judged n p ≡ Good → FineAfter (by_verdict t n r p m Good)
+pub fine_restrung : (t : Tag) → Calm t → (n : ℕ) (r : Reading) (p : List ℕ) (m : Mode) → judged n p ≡ Ok tt → FineAfter (by_verdict t n r p m (Ok tt))
 unfolding pad_out
 fine_restrung t c n r p m g =
     let before = r.settings.head.sdm in
@@ -133,7 +134,7 @@ fine_restrung t c n r p m g =
 
 -- ---- taps
 -- SDM is on only in file 2
-sdm-file : (n : ℕ) (s : List ℕ) → judged n s ≡ Good → (reading_of (read_of s)).settings.head.sdm ≡ true → n ≡ 2
+sdm-file : (n : ℕ) (s : List ℕ) → judged n s ≡ Ok tt → (reading_of (read_of s)).settings.head.sdm ≡ true → n ≡ 2
 unfolding sdm_file reading_of read_of head_of
 sdm-file n s g e = eqb-true n 2 (by (sdm_on s) e (front_kept n s g).file)
   where
@@ -150,9 +151,9 @@ unfolding reading_in slot_of
 tapped-file t c n e = by (eqb n 1) (eqb n 2) (eqb n 3) refl refl refl
   where
     by : (a b d : Bool) → eqb n 1 ≡ a → eqb n 2 ≡ b → eqb n 3 ≡ d → n ≡ 2
-    by true b d p q r = sdm-file n (rules_of t.files n) (subst (λ k. judged k (rules_of t.files k) ≡ Good) (sym (eqb-true n 1 p)) (rules-good t.files 1 c.lasting.one)) e
+    by true b d p q r = sdm-file n (rules_of t.files n) (subst (λ k. judged k (rules_of t.files k) ≡ Ok tt) (sym (eqb-true n 1 p)) (rules-good t.files 1 c.lasting.one)) e
     by false true d p q r = eqb-true n 2 q
-    by false false true p q r = sdm-file n (rules_of t.files n) (subst (λ k. judged k (rules_of t.files k) ≡ Good) (sym (eqb-true n 3 r)) (rules-good t.files 3 c.lasting.three)) e
+    by false false true p q r = sdm-file n (rules_of t.files n) (subst (λ k. judged k (rules_of t.files k) ≡ Ok tt) (sym (eqb-true n 3 r)) (rules-good t.files 3 c.lasting.three)) e
     by false false false p q r =
         absurd (not_both (sym (ap (λ s. (reading_of (read_of s)).settings.head.sdm) (no_string t.files n c.lasting.lens (rw (p, q, r) refl)) ∙ empty_off) ∙ e))
 

@@ -1,4 +1,6 @@
 -- Sound in, sound out: every call, and so any series, leaves a sound state sound.
+use Rattle.std.specs.Prelude.{Option}
+use Rattle.access.specs.declared.Grant.{Grant}
 use mathlib.Core.Path.{◌≡◌, refl}
 use mathlib.Core.Bool.{Bool, true, false}
 use mathlib.Core.List.{List, [], ◌∷◌}
@@ -17,7 +19,6 @@ use Rattle.file_parts.specs.Filing.{stored_iso, with_bytes}
 use Rattle.auth.specs.Parts.{begun}
 use Rattle.part_two.specs.PartTwo.{session_from, entered_first, entered_next, entered}
 use Rattle.selects.specs.Selects.{moved, selected_file}
-use Rattle.access.specs.declared.Noted.{Noted}
 use Rattle.tag.specs.Way.{answered, noted}
 use Rattle.tag.specs.Call.{outcome_of, replied, unanswered, by_outcome}
 use Rattle.tag.specs.declared.Outcome.{Outcome}
@@ -118,7 +119,7 @@ fine_kinds t h c random =
 pub fine_answered : (t : Tag) → Fine t → (c random : List ℕ) → Fine (answered t c random).tag
 fine_answered t h c random = every_answer t c random FineAfter (fine_kinds t h c random)
 
-fine_outcome : (t : Tag) → Fine t → (a : Answer) → Fine a.tag → (n : Noted) (o : Outcome) → Fine (by_outcome t a n o).tag
+fine_outcome : (t : Tag) → Fine t → (a : Answer) → Fine a.tag → (n : Option Grant) (o : Outcome) → Fine (by_outcome t a n o).tag
 unfolding replied unanswered
 fine_outcome t h a f n Replied = f
 fine_outcome t h a f n SmallRoom = h

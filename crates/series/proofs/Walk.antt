@@ -1,4 +1,6 @@
 -- Every answer is of one of a few kinds: what holds of each kind holds of every answer.
+use Rattle.std.specs.Prelude.{Err, None, Ok, Option, Some}
+use Rattle.settings.specs.declared.Fault.TheVariants.{String, File}
 use mathlib.Core.Path.{◌≡◌, refl, sym, subst, ap, ◌∙◌}
 use mathlib.Core.Bool.{Bool, true, false, not}
 use mathlib.Core.List.{List, [], ◌∷◌}
@@ -13,27 +15,21 @@ use Rattle.messaging.specs.declared.Mode.{Mode}
 use Rattle.messaging.specs.declared.Mode.TheVariants.{Full}
 use Rattle.authentication.specs.declared.Proof.{Proof}
 use Rattle.authentication.specs.declared.Proof.TheVariants.{Right, NotThirtyTwo, WrongRndB}
-use Rattle.opening.specs.declared.Opened.TheVariants.{WrongLength, WrongMac, WrongPadding}
+use Rattle.opening.specs.declared.NotOpened.TheVariants.{WrongLength, WrongMac, WrongPadding}
 use Rattle.authentication.specs.Authentication.{part_two, proof_status}
 use Rattle.messaging.specs.Protect.{Opening, plain, wrong_length, wrong_mac, wrong_padding}
 use Rattle.opening.specs.Command.{opened_status}
-use Rattle.settings.specs.declared.Verdict.{Verdict}
-use Rattle.settings.specs.declared.Verdict.TheVariants.{Good, Refused, WrongFile}
-use Rattle.settings.specs.Answers.{judged, status_word}
+use Rattle.settings.specs.Answers.{Verdict, judged, status_word}
 use Rattle.settings.specs.Filing.{file_fault_word}
 use Rattle.spans.specs.declared.Reading.{Reading}
 use Rattle.order.specs.declared.Name.{Name}
 use Rattle.order.specs.declared.Name.TheVariants.{AuthenticateFirst, AuthenticateNonFirst, PartTwo, ChangeKey, GetKeyVersion, GetCardUid}
 use Rattle.order.specs.declared.Name.TheVariants.{GetFileSettings, ChangeFileSettings, GetFileCounters, ReadData, WriteData}
 use Rattle.order.specs.declared.Name.TheVariants.{IsoSelectFile, IsoReadBinary, IsoUpdateBinary}
-use Rattle.order.specs.declared.Named.{Named}
-use Rattle.order.specs.declared.Named.TheVariants.{Known, Unknown}
 use Rattle.order.specs.declared.Command.{Command}
-use Rattle.order.specs.declared.Ordered.{Ordered}
-use Rattle.order.specs.declared.Ordered.TheVariants.{Is}
 use Rattle.order.specs.Names.{class_of, ins_of, named}
 use Rattle.order.specs.Order.{form_right, command_data, header_length, names_key, wrapped_status, iso_form, iso_status}
-use Rattle.order.specs.Commands.{wrapped_command, iso_command, by_status, on_wrapped, on_iso, wrapped_order, iso_order, ordered, data_of}
+use Rattle.order.specs.Commands.{Ordered, wrapped_command, iso_command, by_status, on_wrapped, on_iso, wrapped_order, iso_order, ordered, data_of}
 use Rattle.order.proofs.Names.{named_ins}
 use Rattle.order.proofs.Placed.{wrapped_data}
 use Rattle.access.specs.declared.Grant.{Grant}
@@ -82,7 +78,7 @@ pub record Kinds (t : Tag) (c random : List ℕ) (P : Answer → Type 0) : Type 
   pub rekeys_first : (s : Secrets) → P (given (ended_of (keyed t s)) 0x9100 [])
   pub writes : (n at : ℕ) (p : List ℕ) (m : Mode) → Puts t n at p → P (accepted (filed t (with_bytes t.files n at p)) m [])
   pub writes_iso : (n at : ℕ) (p : List ℕ) → Puts t n at p → P (given (afterwards (filed t (with_bytes t.files n at p))) 0x9000 [])
-  pub restrings : (n : ℕ) (p : List ℕ) (m : Mode) → Sent t c n p m → judged n p ≡ Good → P (by_verdict t n (reading_in t.files n) p m Good)
+  pub restrings : (n : ℕ) (p : List ℕ) (m : Mode) → Sent t c n p m → judged n p ≡ Ok tt → P (by_verdict t n (reading_in t.files n) p m (Ok tt))
   pub taps : (n : ℕ) (iso : Bool) (at count : ℕ) → (reading_in t.files n).settings.head.sdm ≡ true
       → t.live.on ≡ false → t.pending.on ≡ false → or t.place.application (not (eqb t.place.file 0)) ≡ true
       → P (tap_read t (reading_in t.files n) iso at count random)
@@ -160,9 +156,9 @@ module _ (t : Tag) (c random : List ℕ) (P : Answer → Type 0) (kind : Kinds t
       (λ e. kind.refuses (change_status p n new))
 
   verdict_kind : (n : ℕ) (p : List ℕ) (m : Mode) → Sent t c n p m → (v : Verdict) → judged n p ≡ v → P (by_verdict t n (reading_in t.files n) p m v)
-  verdict_kind n p m s Good e = kind.restrings n p m s e
-  verdict_kind n p m s (Refused r) e = kind.refuses (status_word r)
-  verdict_kind n p m s (WrongFile f) e = kind.refuses (file_fault_word f)
+  verdict_kind n p m s (Ok _) e = kind.restrings n p m s e
+  verdict_kind n p m s (Err (String r)) e = kind.refuses (status_word r)
+  verdict_kind n p m s (Err (File f)) e = kind.refuses (file_fault_word f)
 
   settings_kind : (n : ℕ) (p : List ℕ) (m : Mode) → Sent t c n p m → P (changed_settings t n (reading_in t.files n) p m)
   unfolding changed_settings
@@ -252,9 +248,9 @@ module _ (t : Tag) (c random : List ℕ) (P : Answer → Type 0) (kind : Kinds t
     opening_kind : Sends → allows d.grant ≡ true → (o : Opening) → opening_of t k x d.mode ≡ o → P (on_opening t k r d random o)
     opening_kind s a (plain p) e =
         own_kind k.name p (λ q. s q p a e) (λ q. granted-write k.name t.live r.settings.head q a)
-    opening_kind s a wrong_length e = kind.refuses (opened_status WrongLength)
-    opening_kind s a wrong_mac e = kind.refuses (opened_status WrongMac)
-    opening_kind s a wrong_padding e = kind.refuses (opened_status WrongPadding)
+    opening_kind s a wrong_length e = kind.refuses (opened_status (Err WrongLength))
+    opening_kind s a wrong_mac e = kind.refuses (opened_status (Err WrongMac))
+    opening_kind s a wrong_padding e = kind.refuses (opened_status (Err WrongPadding))
 
     step7_kind : Sends → Updates → allows d.grant ≡ true → P (from_step7 t k r d x random)
     unfolding from_step7 wrapped
@@ -321,8 +317,8 @@ module _ (t : Tag) (c random : List ℕ) (P : Answer → Type 0) (kind : Kinds t
         opened = subst (λ y. opening_of t k y m ≡ plain p) (wrapped_data ChangeFileSettings c) o;
       }
 
-  wrapped_known : byte_at c 0 ≡ 0x90 → (n : Name) → named 0x90 (byte_at c 1) ≡ Known n
-      → eqb (wrapped_status c t.pending.on t.place.application) 0 ≡ true → P (on_order t c random (Is (wrapped_command n c)))
+  wrapped_known : byte_at c 0 ≡ 0x90 → (n : Name) → named 0x90 (byte_at c 1) ≡ Some n
+      → eqb (wrapped_status c t.pending.on t.place.application) 0 ≡ true → P (on_order t c random (Ok (wrapped_command n c)))
   unfolding wrapped_command ins_of
   wrapped_known class n e z =
       let k = wrapped_command n c in
@@ -340,12 +336,12 @@ module _ (t : Tag) (c random : List ℕ) (P : Answer → Type 0) (kind : Kinds t
   abbrev Q : Ordered → Type 0
   Q o = P (on_order t c random o)
 
-  wrapped-named : byte_at c 0 ≡ 0x90 → (n : Named) → named 0x90 (byte_at c 1) ≡ n → Q (on_wrapped c t.pending.on t.place.application n)
+  wrapped-named : byte_at c 0 ≡ 0x90 → (n : Option Name) → named 0x90 (byte_at c 1) ≡ n → Q (on_wrapped c t.pending.on t.place.application n)
   unfolding by_status
-  wrapped-named class (Known n) e =
+  wrapped-named class (Some n) e =
       let s = wrapped_status c t.pending.on t.place.application in
       way Q (eqb s 0) (λ z. wrapped_known class n e z) (λ z. kind.refuses s)
-  wrapped-named class Unknown e = kind.refuses 0x911C
+  wrapped-named class None e = kind.refuses 0x911C
 
   wrapped_kind : byte_at c 0 ≡ 0x90 → Q (wrapped_order c t.pending.on t.place.application)
   unfolding wrapped_order
@@ -353,8 +349,8 @@ module _ (t : Tag) (c random : List ℕ) (P : Answer → Type 0) (kind : Kinds t
       way Q (form_right c) (λ f. wrapped-named class (named 0x90 (byte_at c 1)) refl) (λ f. kind.refuses 0x917E)
 
   -- ---- CLA 00
-  iso_known : (n : Name) → named 0x00 (byte_at c 1) ≡ Known n → eqb (iso_status c t.pending.on t.place.file) 0 ≡ true
-      → P (on_order t c random (Is (iso_command n c t.place.file)))
+  iso_known : (n : Name) → named 0x00 (byte_at c 1) ≡ Some n → eqb (iso_status c t.pending.on t.place.file) 0 ≡ true
+      → P (on_order t c random (Ok (iso_command n c t.place.file)))
   unfolding iso_command class_of
   iso_known n e z =
       let k = iso_command n c t.place.file in
@@ -367,12 +363,12 @@ module _ (t : Tag) (c random : List ℕ) (P : Answer → Type 0) (kind : Kinds t
       (λ s. not_iso (byte_at c 1) n ChangeFileSettings e s refl)
       (λ class parted. update_name c n e (q.fit (ap (λ j. eqb j 0xA4) i ∙ select)) (ap (λ j. eqb j 0xA4) i ∙ select) parted))
 
-  iso_named : (n : Named) → named 0x00 (byte_at c 1) ≡ n → Q (on_iso c t.pending.on t.place.file n)
+  iso_named : (n : Option Name) → named 0x00 (byte_at c 1) ≡ n → Q (on_iso c t.pending.on t.place.file n)
   unfolding by_status
-  iso_named (Known n) e =
+  iso_named (Some n) e =
       let s = iso_status c t.pending.on t.place.file in
       way Q (eqb s 0) (λ z. iso_known n e z) (λ z. kind.refuses s)
-  iso_named Unknown e = kind.refuses 0x6D00
+  iso_named None e = kind.refuses 0x6D00
 
   iso_kind : Q (iso_order c t.pending.on t.place.file)
   unfolding iso_order

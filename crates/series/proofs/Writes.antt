@@ -1,4 +1,5 @@
 -- What is known where a file is written: the write is granted, and ends inside the file.
+use Rattle.std.specs.Prelude.{Some}
 use mathlib.Core.Path.{◌≡◌, refl, sym, subst, ap, ◌∙◌}
 use mathlib.Core.Bool.{Bool, true, false}
 use mathlib.Core.List.{List}
@@ -14,7 +15,6 @@ use Rattle.order.specs.declared.Name.{Name}
 use Rattle.order.specs.declared.Name.TheVariants.{AuthenticateFirst, AuthenticateNonFirst, PartTwo, ChangeKey, GetKeyVersion, GetCardUid}
 use Rattle.order.specs.declared.Name.TheVariants.{GetFileSettings, ChangeFileSettings, GetFileCounters, ReadData, WriteData}
 use Rattle.order.specs.declared.Name.TheVariants.{IsoSelectFile, IsoReadBinary, IsoUpdateBinary}
-use Rattle.order.specs.declared.Named.TheVariants.{Known}
 use Rattle.order.specs.Names.{class_of, ins_of, named}
 use Rattle.order.specs.Order.{lc_of, fits}
 use Rattle.order.proofs.Names.{named_class, named_ins}
@@ -28,11 +28,11 @@ use Rattle.series.proofs.Choices.{not_both}
 use Rattle.series.proofs.Orders.{fits_read}
 
 -- a command of CLA 00 is none of CLA 90
-pub not_iso : (ins : ℕ) (n m : Name) → named 0x00 ins ≡ Known n → n ≡ m → class_of m ≡ 0x90 → {A : Type 0} → A
+pub not_iso : (ins : ℕ) (n m : Name) → named 0x00 ins ≡ Some n → n ≡ m → class_of m ≡ 0x90 → {A : Type 0} → A
 not_iso ins n m e q h {A} = let z : ◌≡◌ {A = ℕ} 0x90 0x00 = sym h ∙ ap class_of (sym q) ∙ named_class 0 ins n e in absurd (omega arith)
 
 -- of the commands of CLA 00 that are no select, those with data are updates
-pub update_name : (c : List ℕ) (n : Name) → named 0x00 (byte_at c 1) ≡ Known n → fits (eqb (byte_at c 1) 0xB0) c ≡ true → eqb (byte_at c 1) 0xA4 ≡ false
+pub update_name : (c : List ℕ) (n : Name) → named 0x00 (byte_at c 1) ≡ Some n → fits (eqb (byte_at c 1) 0xB0) c ≡ true → eqb (byte_at c 1) 0xA4 ≡ false
     → leb 1 (lc_of c) ≡ true → n ≡ IsoUpdateBinary
 unfolding class_of ins_of
 update_name c n e f select parted = by n refl

@@ -1,6 +1,6 @@
 -- 01's examples marked †: the commands, the tags that they are given to, and what is answered.
-use Rattle.std.specs.Prelude.{List, [], ◌∷◌, ◌≡◌, ℕ}
-use Rattle.settings.specs.declared.Verdict.TheVariants.{Good, Refused}
+use Rattle.settings.specs.declared.Fault.TheVariants.{String}
+use Rattle.std.specs.Prelude.{List, [], ◌∷◌, ◌≡◌, ℕ, Err, Ok}
 use Rattle.settings.specs.declared.Status.TheVariants.{ParameterError}
 use Rattle.fields.specs.Normal.{normal}
 use Rattle.settings.specs.Answers.{judged}
@@ -45,5 +45,5 @@ pub record Examples (uid random : List ℕ) : Type 0 where
       ≡ 0x00 ∷ 0x03 ∷ 0x30 ∷ 0x23 ∷ 0x80 ∷ 0x00 ∷ 0x00 ∷ 0x91 ∷ 0x00 ∷ []
   pub read_third_replies : reply_of (answered (in_application uid random) read_third random) ≡ 0x91 ∷ 0xAE ∷ []
   pub string-normal : normal (example 67 67) ≡ example 67 67
-  pub mac_at_64 : judged 2 (example 64 64) ≡ Good
-  pub mac_at_63 : judged 2 (example 63 63) ≡ Refused ParameterError
+  pub mac_at_64 : judged 2 (example 64 64) ≡ Ok tt
+  pub mac_at_63 : judged 2 (example 63 63) ≡ Err (String ParameterError)
