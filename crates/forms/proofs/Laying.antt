@@ -10,7 +10,8 @@ use lib.Seq.{take-nil, take_all, length-take-le}
 use Rattle.base.specs.Bytes.{laid, over}
 use Rattle.base.proofs.Bytes.{more, le_or_lt, laid-length, laid-not, laid-front}
 use Rattle.base.proofs.Pieces.{fronted}
-use Rattle.forms.specs.Rooms.{Lays, Within}
+use Rattle.forms.specs.Rooms.{Lays, Writes, Within}
+use Rattle.forms.specs.declared.page.Page.{Page}
 
 take_more : (k : ℕ) (s t : List ℕ) → take k (s ++ t) ≡ take k s ++ take (k - length s) t
 take_more zero s t = sym (ap (λ m. take m t) (zero-sub (length s)))
@@ -82,9 +83,6 @@ lays_none n old =
 pub lays_as : {s t : List ℕ} {n m : ℕ} {a b : List ℕ} → Lays s n a m b → s ≡ t → Lays t n a m b
 lays_as {s} {t} {n} {m} {a} {b} l e = subst (λ x. Lays x n a m b) e l
 
-pub lays_in : {s : List ℕ} {n m : ℕ} {a o b : List ℕ} → Lays s n a m b → a ≡ o → Lays s n o m b
-lays_in {s} {n} {m} {a} {o} {b} l e = subst (λ x. Lays s n x m b) e l
-
 -- a text that is laid whole, or cut where the room ends, or not at all
 pub lays_whole : (s : List ℕ) (n : ℕ) (a b : List ℕ) → n ≤ length a → length s ≤ length a - n → b ≡ laid s n a → Lays s n a (n + length s) b
 lays_whole s n a b h k e =
@@ -110,29 +108,42 @@ lays_out s n a h =
       left = sym (ap (λ x. laid x n a) e ∙ laid_nothing n a);
     }
 
--- ---- loops: what is laid so far, and what is still to come
-pub record Going (text : List ℕ) (n : ℕ) (old : List ℕ) (m : ℕ) (b : List ℕ) (rest : List ℕ) : Type 0 where
+-- ---- pages
+pub writes_none : (p : Page) → Writes [] p p
+writes_none p = record { laid = lays_none p.used p.room.now; same_room = refl }
+
+pub writes_more : {s t : List ℕ} {p q r : Page} → Writes s p q → Writes t q r → Writes (s ++ t) p r
+writes_more u v = record { laid = lays_more u.laid v.laid; same_room = v.same_room ∙ u.same_room }
+
+pub writes_as : {s t : List ℕ} {p q : Page} → Writes s p q → s ≡ t → Writes t p q
+writes_as {s} {t} {p} {q} u e = subst (λ x. Writes x p q) e u
+
+pub writes_in : {s : List ℕ} {p o q : Page} → Writes s p q → p ≡ o → Writes s o q
+writes_in {s} {p} {o} {q} u e = subst (λ x. Writes s x q) e u
+
+pub writes_to : {s : List ℕ} {p q o : Page} → Writes s p q → q ≡ o → Writes s p o
+writes_to {s} {p} {q} {o} u e = subst (λ x. Writes s p x) e u
+
+-- loops: what is written so far, and what is still to come
+pub record Going (text : List ℕ) (old new : Page) (rest : List ℕ) : Type 0 where
   pub done : List ℕ
-  pub so : Lays done n old m b
+  pub so : Writes done old new
   pub whole : done ++ rest ≡ text
 
-pub going_none : (text : List ℕ) (n : ℕ) (old : List ℕ) → Going text n old n old text
-going_none text n old = record { done = []; so = lays_none n old; whole = refl }
+pub going_none : (text : List ℕ) (p : Page) → Going text p p text
+going_none text p = record { done = []; so = writes_none p; whole = refl }
 
-pub going_more : {text : List ℕ} {n m r : ℕ} {old b c rest : List ℕ} → Going text n old m b rest → (s rest' : List ℕ) → Lays s m b r c
-    → rest ≡ s ++ rest' → Going text n old r c rest'
+pub going_more : {text : List ℕ} {p q r : Page} {rest : List ℕ} → Going text p q rest → (s rest' : List ℕ) → Writes s q r
+    → rest ≡ s ++ rest' → Going text p r rest'
 going_more g s rest' l e =
     record {
       done = g.done ++ s;
-      so = lays_more g.so l;
+      so = writes_more g.so l;
       whole = append_assoc g.done s rest' ∙ ap (λ x. g.done ++ x) (sym e) ∙ g.whole;
     }
 
-pub going_end : {text : List ℕ} {n m : ℕ} {old b rest : List ℕ} → Going text n old m b rest → rest ≡ [] → Lays text n old m b
-going_end g e = lays_as g.so (sym (append-nil g.done) ∙ ap (λ x. g.done ++ x) (sym e) ∙ g.whole)
-
-pub going_length : {text : List ℕ} {n m : ℕ} {old b rest : List ℕ} → Going text n old m b rest → length b ≡ length old
-going_length {text} {n} {m} {old} g = ap length g.so.left ∙ laid-length (take (length old - n) g.done) n old
+pub going_end : {text : List ℕ} {p q : Page} {rest : List ℕ} → Going text p q rest → rest ≡ [] → Writes text p q
+going_end g e = writes_as g.so (sym (append-nil g.done) ∙ ap (λ x. g.done ++ x) (sym e) ∙ g.whole)
 
 pub lays_length : {text : List ℕ} {n m : ℕ} {old b : List ℕ} → Lays text n old m b → length b ≡ length old
 lays_length {text} {n} {m} {old} l = ap length l.left ∙ laid-length (take (length old - n) text) n old

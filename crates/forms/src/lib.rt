@@ -2,7 +2,6 @@
 #![tactic(auto)]
 
 mod form;
-mod room;
+mod page;
 
-pub use form::{append_form, append_from};
-pub use room::append;
+pub use page::{Page, lay, lay_form};
