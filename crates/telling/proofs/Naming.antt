@@ -3,10 +3,15 @@ use mathlib.Core.Path.{◌≡◌, refl, sym, ap, ap₂, ◌∙◌}
 use mathlib.Core.Bool.{true, false}
 use mathlib.Core.List.{List, [], ◌∷◌}
 use Prim.Native.Nat.{ℕ, zero, suc, ◌+◌, ◌-◌, ◌/◌, ◌%◌, ◌≤◌, ◌<◌}
+use native.Mathlib.Nat.{sub-zero}
 use native.Mathlib.Numerals.{add-one}
 use native.Mathlib.Omega.{arith}
 use lib.ListN.{length, take, drop, length-drop, drop_of_length-le}
-use lib.Seq.{drop-drop}
+use lib.Seq.{drop-drop, take_all}
+use mathlib.Core.Logic.{⊎_elim}
+use denote.Ref.{Bor}
+use Rattle.std.specs.Slice.{IsGetRangeResult}
+use Rattle.std.specs.Prelude.{Option, None, Some, unwrap_or}
 use Rattle.base.specs.Decide.{pick}
 use Rattle.base.specs.Bytes.{same}
 use Rattle.lines.specs.Lines.{before, seek}
@@ -58,6 +63,14 @@ unfolding row_of
 row_none table key other at h = rw (drop_of_length-le table {i = at} h) refl
 
 -- a status as four digits
-pub key_is : (s : ℕ) (old : List ℕ) → length old ≡ 4 → chars_room (s / 256 % 256 ∷ s % 256 ∷ []) old ≡ key_of s
+key_is : (s : ℕ) (old : List ℕ) → length old ≡ 4 → chars_room (s / 256 % 256 ∷ s % 256 ∷ []) old ≡ key_of s
 unfolding key_of
 key_is s old h = chars_whole (s / 256 % 256 ∷ s % 256 ∷ []) old (omega arith)
+
+pub key_bytes : (s : ℕ) (b old key : List ℕ) → b ≡ s / 256 % 256 ∷ s % 256 ∷ [] → key ≡ chars_room b old → length old ≡ 4 → key ≡ key_of s
+key_bytes s b old key e f l = f ∙ ap (λ x. chars_room x old) e ∙ key_is s old l
+
+-- the front of a text, and all of it where it is no longer
+pub front_of : (s : List ℕ) (n : ℕ) (r : Option (Bor (List ℕ))) (all : Bor (List ℕ)) → IsGetRangeResult s 0 n r → all.now ≡ s → (unwrap_or r all).now ≡ take n s
+front_of s n None all h e = e ∙ sym (take_all n s (⊎_elim (λ k. omega arith) (λ k. omega arith) h.0))
+front_of s n (Some x) all h e = h.0.2 ∙ ap (λ k. take k s) (sub-zero n)

@@ -1,6 +1,5 @@
 -- One step of each walk over bytes.
 use mathlib.Core.Path.{◌≡◌, refl, sym, ap, ◌∙◌}
-use mathlib.Core.Bool.{true, false}
 use mathlib.Core.List.{List, [], ◌∷◌, ◌++◌}
 use Prim.Native.Nat.{ℕ, zero, suc, ◌+◌, ◌-◌, ◌/◌, ◌%◌, ◌≤◌, ◌<◌}
 use native.Mathlib.Numerals.{add-one}
@@ -10,7 +9,7 @@ use lib.Seq.{drop-cons}
 use borrow.Author.Tests.{eq-eqb, ne_eqb}
 use Rattle.base.specs.Bytes.{byte_at}
 use Rattle.lines.specs.Hex.{char_of}
-use Rattle.telling.specs.Plain.{spaced_of, is_printable, printables_in, dotted_of, dotted, before_zeros}
+use Rattle.telling.specs.Plain.{spaced_of, dotted_of, dotted, before_zeros}
 
 pub spaced_step : (s : List ℕ) (i : ℕ) → i < length s
     → spaced_of (drop i s) ≡ (32 ∷ char_of (get_or s i 0 / 16 % 16) ∷ char_of (get_or s i 0 % 16) ∷ []) ++ spaced_of (drop (i + 1) s)
@@ -28,21 +27,6 @@ dotted-step s i h = rw (add-one i, drop-cons s i 0 h) refl
 pub dotted_end : (s : List ℕ) (i : ℕ) → length s ≤ i → dotted (drop i s) ≡ []
 unfolding dotted
 dotted_end s i h = rw (drop_of_length-le s {i = i} h) refl
-
--- a byte that is printable, and one that is not
-pub printable_one : (s : List ℕ) (i : ℕ) → i < length s → is_printable (get_or s i 0) ≡ true
-    → printables_in (drop i s) ≡ 1 + printables_in (drop (i + 1) s)
-unfolding printables_in
-printable_one s i h e = rw (add-one i, drop-cons s i 0 h, e) refl
-
-pub printable_none : (s : List ℕ) (i : ℕ) → i < length s → is_printable (get_or s i 0) ≡ false
-    → printables_in (drop i s) ≡ printables_in (drop (i + 1) s)
-unfolding printables_in
-printable_none s i h e = rw (add-one i, drop-cons s i 0 h, e) refl
-
-pub printable_end : (s : List ℕ) (i : ℕ) → length s ≤ i → printables_in (drop i s) ≡ 0
-unfolding printables_in
-printable_end s i h = rw (drop_of_length-le s {i = i} h) refl
 
 -- a zero at the end, and another byte
 pub zeros-step : (n : ℕ) (s : List ℕ) → 0 < n → byte_at s (n - 1) ≡ 0 → before_zeros n s ≡ before_zeros (n - 1) s

@@ -1,5 +1,5 @@
 -- Bytes in hexadecimal, and as text.
-use Rattle.std.specs.Prelude.{Bool, List, [], ◌∷◌, ◌++◌, ℕ, zero, suc, ◌+◌, ◌-◌, ◌/◌, ◌%◌, eqb, leb, ltb, length, take}
+use Rattle.std.specs.Prelude.{Bool, count_by, List, [], ◌∷◌, ◌++◌, ℕ, zero, suc, ◌-◌, ◌/◌, ◌%◌, eqb, leb, ltb, length, take}
 use Rattle.base.specs.Decide.{pick, and}
 use Rattle.base.specs.Bytes.{byte_at}
 use Rattle.lines.specs.Hex.{char_of}
@@ -13,8 +13,7 @@ unfoldable pub is_printable : ℕ → Bool
 is_printable c = and (leb 32 c) (leb c 126)
 
 unfoldable pub printables_in : List ℕ → ℕ
-printables_in [] = 0
-printables_in (c ∷ cs) = pick (is_printable c) (1 + printables_in cs) (printables_in cs)
+printables_in s = count_by is_printable s
 
 -- a dot (46) for a byte that is no printable character
 unfoldable pub dotted_of : ℕ → ℕ

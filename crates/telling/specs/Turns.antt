@@ -1,8 +1,9 @@
 -- What is printed of a line of a plan: nothing where it is blank, why it is skipped, or its exchange.
-use Rattle.std.specs.Prelude.{Bool, true, List, [], ◌∷◌, ◌++◌, ℕ, eqb, take}
+use Rattle.std.specs.Prelude.{Bool, true, Result, Ok, Err, List, [], ◌∷◌, ◌++◌, ℕ, eqb, take}
 use Rattle.base.specs.Decide.{pick}
 use Rattle.plans.specs.declared.Meaning.{Meaning}
-use Rattle.plans.specs.declared.Meaning.TheVariants.{Blank, Drawn, Given, Bad}
+use Rattle.plans.specs.declared.Meaning.TheVariants.{Blank, Drawn, Given}
+use Rattle.plans.specs.declared.Reason.{Reason}
 use Rattle.plans.specs.Numbers.{reason_number}
 use Rattle.forms.specs.Forms.{form_of}
 use Rattle.telling.specs.declared.Why.{Why}
@@ -40,9 +41,9 @@ played_text number command reply why blocks expected unmet =
     exchange_of number command reply ++ access_text why ++ blocks_text blocks ++ pick unmet (unlike_of expected) []
 
 -- a line with this number: its command is the first n bytes of c
-unfoldable pub line_text : ℕ → Meaning → List ℕ → List ℕ → Why → ℕ → List ℕ → Bool → Bool → List ℕ
-line_text number Blank c reply why blocks expected undrawn unmet = []
-line_text number (Bad r) c reply why blocks expected undrawn unmet = skipped_text number (reason_number r)
-line_text number (Drawn n) c reply why blocks expected undrawn unmet =
+unfoldable pub line_text : ℕ → Result Meaning Reason → List ℕ → List ℕ → Why → ℕ → List ℕ → Bool → Bool → List ℕ
+line_text number (Ok Blank) c reply why blocks expected undrawn unmet = []
+line_text number (Err r) c reply why blocks expected undrawn unmet = skipped_text number (reason_number r)
+line_text number (Ok (Drawn n)) c reply why blocks expected undrawn unmet =
     pick undrawn (skipped_text number 7) (played_text number (take n c) reply why blocks expected unmet)
-line_text number (Given n) c reply why blocks expected undrawn unmet = played_text number (take n c) reply why blocks expected unmet
+line_text number (Ok (Given n)) c reply why blocks expected undrawn unmet = played_text number (take n c) reply why blocks expected unmet

@@ -1,24 +1,22 @@
 // What is printed of the access decision.
-ghost use Rattle.forms.specs.Rooms.{Lays};
+ghost use Rattle.forms.specs.Rooms.{Writes};
 ghost use Rattle.telling.specs.Decision.{access_text};
 
 use crate::Why;
-use forms::append_form;
+use forms::Page;
 
 // How a command was granted and under which right, in words; nothing where it never got to the decision.
-pub fn access_line(why: Why, room: &mut [u8], n: usize) -> usize
-    ensures { Lays (access_text why) n room.old result room.new }
+pub fn access_line(why: Why, page: &mut Page<'_>)
+    ensures { Writes (access_text why) page.old page.new }
 {
-    let how = why.how;
-    let right = why.right;
-    let key = why.key as u64;
+    let Why { how, right, key } = why;
     if how == 0 {
-        return n;
+        return;
     }
-    append_form(
+    page.append_form(
         b"  access: {by key #}{a tap}{free}{needs no right}{refused}{, under Read}{, under Write}{, under ReadWrite}\
 {, under Change}{, under SDMMetaRead}{, under SDMFileRead}{, under SDMCtrRet}\n",
-        &[key],
+        &[u64::from(key)],
         &[
             how == 1,
             how == 2,
@@ -33,7 +31,5 @@ pub fn access_line(why: Why, room: &mut [u8], n: usize) -> usize
             right == 6,
             right == 7,
         ],
-        room,
-        n,
-    )
+    );
 }

@@ -1,71 +1,60 @@
 // What is printed of a command, its reply, and what was expected of it.
-ghost use Rattle.forms.specs.Rooms.{Lays};
+ghost use Rattle.forms.specs.Rooms.{Writes};
 ghost use Rattle.telling.specs.Exchanges.{refused_of, status_line, reply_text, exchange_of, unlike_of};
 
 use crate::names::status_name;
 use crate::plain::{spaced, text_line};
-use forms::{append, append_form};
+use forms::Page;
 
 // Says plainly that a ChangeFileSettings was refused.
-fn settings_refused(command: &[u8], status: u16, room: &mut [u8], n: usize) -> usize
-    ensures { Lays (refused_of command.now status) n room.old result room.new }
+fn settings_refused(command: &[u8], status: u16, page: &mut Page<'_>)
+    ensures { Writes (refused_of command.now status) page.old page.new }
 {
-    if base::at(command, 0) != 0x90 {
-        return n;
+    if base::at(command, 0) == 0x90 && base::at(command, 1) == 0x5F && status != 0x9100 {
+        page.append(b"  ChangeFileSettings was refused: the settings are as they were.\n");
     }
-    if base::at(command, 1) != 0x5F {
-        return n;
-    }
-    if status == 0x9100 {
-        return n;
-    }
-    append(
-        b"  ChangeFileSettings was refused: the settings are as they were.\n",
-        room,
-        n,
-    )
 }
 
 // A reply's bytes, and what its status means.
-fn status_line(r: &[u8], status: u16, room: &mut [u8], n: usize) -> usize
-    ensures { Lays (status_line r.now status) n room.old result room.new }
+fn status_line(r: &[u8], status: u16, page: &mut Page<'_>)
+    ensures { Writes (status_line r.now status) page.old page.new }
 {
-    let a = append(b"<", room, n);
-    let b = spaced(r, room, a);
-    let c = append(b" : ", room, b);
-    let d = status_name(status, room, c);
-    append(b"\n", room, d)
+    page.append(b"<");
+    spaced(r, page);
+    page.append(b" : ");
+    status_name(status, page);
+    page.append(b"\n");
 }
 
 // A reply: data and two status bytes.
-fn reply(command: &[u8], r: &[u8], room: &mut [u8], n: usize) -> usize
-    ensures { Lays (reply_text command.now r.now) n room.old result room.new }
+fn reply(command: &[u8], r: &[u8], page: &mut Page<'_>)
+    ensures { Writes (reply_text command.now r.now) page.old page.new }
 {
     if r.len() < 2 {
-        return append(b"< no reply\n", room, n);
+        page.append(b"< no reply\n");
+        return;
     }
-    let k = r.len() - 2;
     let status = verdict::status_of(r);
-    let a = status_line(r, status, room, n);
-    let b = text_line(&r[..k], room, a);
-    settings_refused(command, status, room, b)
+    status_line(r, status, page);
+    text_line(&r[..r.len() - 2], page);
+    settings_refused(command, status, page);
 }
 
 // A command with its line's number, and its reply.
-pub fn exchange(number: u64, command: &[u8], r: &[u8], room: &mut [u8]) -> usize
-    ensures { Lays (exchange_of number command.now r.now) 0 room.old result room.new }
+pub fn exchange(number: u64, command: &[u8], r: &[u8], page: &mut Page<'_>)
+    ensures { Writes (exchange_of number command.now r.now) page.old page.new }
 {
-    let a = append_form(b"line # >", &[number], &[true], room, 0);
-    let b = spaced(command, room, a);
-    let c = append(b"\n", room, b);
-    reply(command, r, room, c)
+    page.append_form(b"line # >", &[number], &[true]);
+    spaced(command, page);
+    page.append(b"\n");
+    reply(command, r, page);
 }
 
 // What was expected of a reply that differs.
-pub fn unlike(expected: &[u8], room: &mut [u8], n: usize) -> usize
-    ensures { Lays (unlike_of expected.now) n room.old result room.new }
+pub fn unlike(expected: &[u8], page: &mut Page<'_>)
+    ensures { Writes (unlike_of expected.now) page.old page.new }
 {
-    let a = append(b"  NOT AS EXPECTED:", room, n);
-    let b = spaced(expected, room, a);
-    append(b"\n", room, b)
+    page.append(b"  NOT AS EXPECTED:");
+    spaced(expected, page);
+    page.append(b"\n");
 }

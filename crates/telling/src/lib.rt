@@ -11,7 +11,7 @@ mod work;
 pub use turn::line_text;
 
 // Why a command was granted: how and under which right, by the numbers of a journal, and the key of the session that it came in.
-#[derive(Clone, Copy)]
+#[derive(Clone, Copy, Debug, PartialEq, Eq)]
 pub struct Why {
     pub how: u8,
     pub right: u8,

@@ -1,40 +1,37 @@
 // What a status means: Tables 23 and 24 of the data sheet.
 ghost use Rattle.std.specs.Prelude.{◌≡◌, take};
 ghost use Rattle.base.specs.Bytes.{same};
-ghost use Rattle.forms.specs.Rooms.{Lays};
+ghost use Rattle.forms.specs.Rooms.{Writes};
 ghost use Rattle.telling.specs.Names.{row_of, table23, table24, not_in23, not_in24, name_of};
 
-use forms::{append, append_from};
+use forms::Page;
 
 // Whether a line begins with a key of four characters.
 fn has_key(line: &[u8], key: &[u8]) -> bool
     ensures { result ≡ same (take 4 line.now) key.now }
 {
-    if line.len() < 4 {
-        return base::alike(line, key);
-    }
-    base::alike(&line[..4], key)
+    base::alike(line.get(..4).unwrap_or(line), key)
 }
 
 // The text of the first line that has the key, or else another.
-fn look_up(table: &[u8], key: &[u8], other: &[u8], room: &mut [u8], n: usize) -> usize
-    ensures { Lays (row_of 0 table.now key.now other.now) n room.old result room.new }
+fn look_up(table: &[u8], key: &[u8], other: &[u8], page: &mut Page<'_>)
+    ensures { Writes (row_of 0 table.now key.now other.now) page.old page.new }
 {
     let mut at = 0;
     while at < table.len() {
         let end = lines::find(table, at, b'\n');
-        let next = end + 1;
         if has_key(&table[at..end], key) {
-            return append_from(&table[at..end], 4, room, n);
+            page.append_from(&table[at..end], 4);
+            return;
         }
-        at = next;
+        at = end + 1;
     }
-    append(other, room, n)
+    page.append(other);
 }
 
 // CLA 90 (Table 23).
-fn wrapped(key: &[u8], room: &mut [u8], n: usize) -> usize
-    ensures { Lays (row_of 0 table23 key.now not_in23) n room.old result room.new }
+fn wrapped(key: &[u8], page: &mut Page<'_>)
+    ensures { Writes (row_of 0 table23 key.now not_in23) page.old page.new }
 {
     look_up(
         b"9100OPERATION_OK: Successful operation.\n\
@@ -52,14 +49,13 @@ fn wrapped(key: &[u8], room: &mut [u8], n: usize) -> usize
 91F0FILE_NOT_FOUND: Specified file number does not exist.\n",
         key,
         b"not in Table 23.",
-        room,
-        n,
-    )
+        page,
+    );
 }
 
 // CLA 00 (Table 24), but for 6C and a number.
-fn inter_industry(key: &[u8], room: &mut [u8], n: usize) -> usize
-    ensures { Lays (row_of 0 table24 key.now not_in24) n room.old result room.new }
+fn inter_industry(key: &[u8], page: &mut Page<'_>)
+    ensures { Writes (row_of 0 table24 key.now not_in24) page.old page.new }
 {
     look_up(
         b"6700Wrong length; no further indication.\n\
@@ -75,30 +71,20 @@ fn inter_industry(key: &[u8], room: &mut [u8], n: usize) -> usize
 9000Normal processing.\n",
         key,
         b"not in Table 24.",
-        room,
-        n,
-    )
+        page,
+    );
 }
 
-pub fn status_name(status: u16, room: &mut [u8], n: usize) -> usize
-    ensures { Lays (name_of status) n room.old result room.new }
+pub fn status_name(status: u16, page: &mut Page<'_>)
+    ensures { Writes (name_of status) page.old page.new }
 {
     let mut key = [0u8; 4];
-    lines::encode(
-        &[(status / 256 % 256) as u8, (status % 256) as u8],
-        &mut key,
-    );
-    if status / 256 == 0x91 {
-        return wrapped(&key, room, n);
+    lines::encode(&status.to_be_bytes(), &mut key);
+    match status {
+        0x9100..=0x91FF => wrapped(&key, page),
+        0x6C01..=0x6CFF => page.append(
+            b"Wrong Le field; SW2 is the exact number of available data bytes.",
+        ),
+        _ => inter_industry(&key, page),
     }
-    if 0x6C01 <= status {
-        if status <= 0x6CFF {
-            return append(
-                b"Wrong Le field; SW2 is the exact number of available data bytes.",
-                room,
-                n,
-            );
-        }
-    }
-    inter_industry(&key, room, n)
 }

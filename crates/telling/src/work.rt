@@ -1,12 +1,12 @@
 // What is printed of the cipher work of a call.
-ghost use Rattle.forms.specs.Rooms.{Lays};
+ghost use Rattle.forms.specs.Rooms.{Writes};
 ghost use Rattle.telling.specs.Work.{blocks_text};
 
-use forms::append_form;
+use forms::Page;
 
 // How many AES blocks were computed.
-pub fn blocks_line(blocks: u64, room: &mut [u8], n: usize) -> usize
-    ensures { Lays (blocks_text blocks) n room.old result room.new }
+pub fn blocks_line(blocks: u64, page: &mut Page<'_>)
+    ensures { Writes (blocks_text blocks) page.old page.new }
 {
-    append_form(b"  blocks: #\n", &[blocks], &[true], room, n)
+    page.append_form(b"  blocks: #\n", &[blocks], &[true]);
 }

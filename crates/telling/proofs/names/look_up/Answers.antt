@@ -1,9 +1,7 @@
 -- `telling::names::look_up` meets its contract.
-use mathlib.Core.Path.{refl, sym, ap, ◌∙◌}
+use mathlib.Core.Path.{refl, sym, ◌∙◌}
 use native.Mathlib.Omega.{arith}
-use lib.ListN.{length}
-use Prim.Native.Nat.{◌-◌}
-use Rattle.forms.proofs.Laying.{lays_as, lays_in, lays_length}
+use Rattle.forms.proofs.Laying.{writes_as, writes_in}
 use Rattle.lines.proofs.Steps.{seek-from, seek_within}
 use Rattle.telling.proofs.Naming.{row_here, row_next, row_none}
 use Rattle.telling.proofs.names.look_up.Goals as goal
@@ -11,8 +9,8 @@ use Rattle.telling.proofs.names.look_up.Goals as goal
 pub loop-at-init : goal.loop-at-init
 loop-at-init c = (refl, refl)
 
-pub overflow_add-next : goal.overflow_add-next
-overflow_add-next c =
+pub overflow_add-at : goal.overflow_add-at
+overflow_add-at c =
     let x = c.args.table.now in let e = seek-from x c.loop-at.at
     10 in let f = seek_within x c.loop-at.at 10 (omega (arith, c.loop-at-test.true)) in omega (arith, c.find-end.ensures)
 
@@ -60,14 +58,12 @@ slice_bounds-append_from-end c =
       c.find-end.ensures,
     )
 
-pub shape_of-room-then-has_key : goal.shape_of-room-then-has_key
-shape_of-room-then-has_key c = lays_length c.append_from.ensures ∙ ap length c.loop-at.invariant.0
-
 pub returns-then-has_key : goal.returns-then-has_key
 returns-then-has_key c =
     let loop = c.loop-at in
-    let a = c.args in lays_in
-    (lays_as c.append_from.ensures (sym (row_here a.table.now a.key.now a.other.now loop.at _ c.loop-at-test.true c.find-end.ensures (sym c.has_key.ensures ∙ c.if-has_key.true)) ∙ loop.invariant.1)) loop.invariant.0
+    let a = c.args in
+    let t = sym (row_here a.table.now a.key.now a.other.now loop.at _ c.loop-at-test.true c.find-end.ensures (sym c.has_key.ensures ∙ c.if-has_key.true)) ∙ loop.invariant.1 in
+    writes_in (writes_as c.append_from.ensures t) loop.invariant.0
 
 pub loop-at-smaller : goal.loop-at-smaller
 loop-at-smaller c =
@@ -86,10 +82,9 @@ loop-at-preserved c =
       sym (row_next a.table.now a.key.now a.other.now loop.at _ c.loop-at-test.true c.find-end.ensures (sym c.has_key.ensures ∙ c.if-has_key.false)) ∙ loop.invariant.1,
     )
 
-pub shape_of-room : goal.shape_of-room
-shape_of-room c = lays_length c.append.ensures ∙ ap length c.loop-at.invariant.0
-
 pub returns : goal.returns
 returns c =
     let loop = c.loop-at in
-    let a = c.args in lays_in (lays_as c.append.ensures (sym (row_none a.table.now a.key.now a.other.now loop.at c.loop-at-test.false) ∙ loop.invariant.1)) loop.invariant.0
+    let a = c.args in
+    let t = sym (row_none a.table.now a.key.now a.other.now loop.at c.loop-at-test.false) ∙ loop.invariant.1 in
+    writes_in (writes_as c.append.ensures t) loop.invariant.0

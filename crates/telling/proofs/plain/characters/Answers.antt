@@ -1,25 +1,17 @@
--- `telling::plain::characters` meets its contract.
 use mathlib.Core.Path.{ap}
 use native.Mathlib.Omega.{arith}
-use Prim.Native.Nat.{◌-◌}
 use mathlib.Core.List.{[], ◌∷◌}
-use Rattle.forms.proofs.Laying.{going_none, going_more, going_end, going_length, lays_as}
+use Rattle.forms.proofs.Laying.{going_none, going_more, going_end, writes_as}
 use Rattle.telling.proofs.Plainly.{dotted-step, dotted_end}
 use Rattle.telling.proofs.plain.characters.Goals as goal
 
-pub loop-i-init : goal.loop-i-init
-loop-i-init c = (omega arith, going_none _ _ _)
+pub loop-c-init : goal.loop-c-init
+loop-c-init c = going_none _ _
 
-pub loop-i-preserved : goal.loop-i-preserved
-loop-i-preserved c =
-    let loop = c.loop-i in (
-      omega arith,
-      going_more loop.invariant.1 _ _ (lays_as c.append-e.ensures (ap (λ x. x ∷ []) c.dot.ensures)) (dotted-step c.args.s.now
-          loop.i c.loop-i-test.true),
-    )
-
-pub shape_of-room : goal.shape_of-room
-shape_of-room c = going_length c.loop-i.invariant.1
+pub loop-c-preserved : goal.loop-c-preserved
+loop-c-preserved c =
+    going_more c.loop-c.invariant _ _ (writes_as c.append.ensures (ap (λ x. x ∷ []) c.dot.ensures))
+    (dotted-step c.args.s.now c.loop-c.c-index (omega arith))
 
 pub returns : goal.returns
-returns c = going_end c.loop-i.invariant.1 (dotted_end c.args.s.now c.loop-i.i c.loop-i-test.false)
+returns c = going_end c.loop-c.invariant (dotted_end c.args.s.now c.loop-c.c-index (omega arith))
