@@ -3,17 +3,16 @@ use mathlib.Core.Path.{◌≡◌, sym, ap, ap₂, ◌∙◌}
 use mathlib.Core.Bool.{Bool, true, false}
 use mathlib.Core.List.{List}
 use mathlib.Core.Logic.{⊎_elim}
-use Prim.Native.Nat.{ℕ, ◌+◌, ◌-◌, min, ◌≤◌, ◌<◌}
+use Prim.Native.Nat.{ℕ, ◌+◌, ◌-◌, min, ◌≤◌}
 use native.Mathlib.Omega.{arith}
 use lib.Dec.{eqb}
-use lib.ListN.{length, take, drop, replicate, length-take, length-drop, drop_of_length-le}
-use lib.Seq.{take_all, take-append_seam}
+use lib.ListN.{length, take, drop, length-take, length-drop, drop_of_length-le}
+use lib.Seq.{take_all}
 use Rattle.base.specs.Decide.{pick}
 use Rattle.base.specs.Bytes.{laid}
-use Rattle.base.proofs.Bytes.{le_or_lt, laid-front, laid-not}
+use Rattle.base.proofs.Bytes.{le_or_lt, laid-not}
 use Rattle.state.specs.declared.Files.{Files}
 use Rattle.state.specs.State.{start_of, size_of, file_of}
-use Rattle.replies.specs.declared.Excerpt.{Excerpt}
 use Rattle.file_parts.specs.Filing.{part_of, with_bytes}
 
 -- ---- parts of a list
@@ -30,48 +29,30 @@ take_bound k b s h =
     (λ f. take_all (min k b) s (omega arith) ∙ sym (take_all k s (omega arith)))
     (le_or_lt k b)
 
--- the part from a start that lies inside, as long as there is
-module _ (s : List ℕ) (at k start len : ℕ) (e : start ≡ min at (length s)) (f : len ≡ min k (length s - start)) where
-  rest : drop start s ≡ drop at s
-  rest = ap (λ n. drop n s) e ∙ drop_min at s
+-- the part from a start inside the text, no longer than what is behind it
+rest-is : (s : List ℕ) (at a : ℕ) → a ≡ min at (length s) → take (length s - a) (drop a s) ≡ drop at s
+rest-is s at a e =
+    let l : length (drop a s) ≤ length s - a = omega (arith, length-drop a s) in
+    take_all (length s - a) (drop a s) l ∙ ap (λ n. drop n s) e ∙ drop_min at s
 
-  rest-length : length (drop at s) ≡ length s - start
-  rest-length = ap length (sym rest) ∙ length-drop start s
-
-  count : len ≡ min k (length (drop at s))
-  count = omega (arith, rest-length)
-
-  cut_bytes : take (start + len - start) (drop start s) ≡ take k (drop at s)
-  cut_bytes =
-      let d : start + len - start ≡ min k (length (drop at s)) = omega (arith, count) in
-      ap₂ (λ n x. take n x) d rest ∙ take_bound k (length (drop at s)) (drop at s) (omega arith)
-
-  cut_length : len ≡ length (take k (drop at s))
-  cut_length = count ∙ sym (length-take k (drop at s))
-
-abbrev part : List ℕ → ℕ → Excerpt
-part b n = record { bytes = b; length = n }
-
-pub cut_part : (s b : List ℕ) (at n k start len : ℕ) → start ≡ min at (length s) → k ≡ min n 256 → len ≡ min k (length s - start)
-    → b ≡ laid (take (start + len - start) (drop start s)) 0 (replicate 258 0) → part b len ≡ part_of s at n
+pub cut_part : (s : List ℕ) (at n a m k : ℕ) → a ≡ min at (length s) → m ≡ min (length (take (length s - a) (drop a s))) n → k ≡ min m 256
+    → take 258 (take k (take (length s - a) (drop a s))) ≡ part_of s at n
 unfolding part_of
-cut_part s b at n k start len e g f h =
-    let q : take k (drop at s) ≡ take (min n 256) (drop at s) = ap (λ y. take y (drop at s)) g in
-    ap₂ part (h ∙ ap (λ x. laid x 0 (replicate 258 0)) (cut_bytes s at k start len e f ∙ q)) (cut_length s at k start len e f ∙ ap length q)
+cut_part s at n a m k e f g =
+    let r = rest-is s at a e in
+    let l : m ≡ min (length (drop at s)) n = f ∙ ap (λ x. min (length x) n) r in
+    let h : k ≡ min (min n 256) (length (drop at s)) = omega arith in
+    let short : length (take k (take (length s - a) (drop a s))) ≤ 258 = omega (arith, length-take k (take (length s - a) (drop a s))) in
+    take_all 258 (take k (take (length s - a) (drop a s))) short ∙ ap₂ (λ i x. take i x) h r
+    ∙ take_bound (min n 256) (length (drop at s)) (drop at s) (omega arith)
 
 -- what is given of a part of a text of at most 256 bytes
-pub part-given : (s : List ℕ) (at n : ℕ) (p : Excerpt) → length s ≤ 256 → p ≡ part_of s at n
-    → take (min p.length 256) p.bytes ≡ take n (drop at s)
+pub part-given : (s : List ℕ) (at n : ℕ) (p : List ℕ) → length s ≤ 256 → p ≡ part_of s at n → take 256 p ≡ take n (drop at s)
 unfolding part_of
 part-given s at n p h e =
-    let x = take (min n 256) (drop at s) in
-    let l : length x ≤ 256 = simp length-take (omega arith) in
-    let m : length (drop at s) ≤ 256 = omega (arith, length-drop at s) in
-    let k : min (length x) 256 ≡ length x = omega arith in
-    ap (λ (y : Excerpt). take (min y.length 256) y.bytes) e
-    ∙ ap₂ (λ i y. take i y) k (laid-front x (replicate 258 0) (omega arith))
-    ∙ take-append_seam x (drop (length x) (replicate 258 0))
-    ∙ take_bound n 256 (drop at s) m
+    let l : length (drop at s) ≤ 256 = omega (arith, length-drop at s) in
+    let short : length (take (min n 256) (drop at s)) ≤ 256 = omega (arith, length-take (min n 256) (drop at s)) in
+    ap (take 256) e ∙ take_all 256 (take (min n 256) (drop at s)) short ∙ take_bound n 256 (drop at s) l
 
 -- ---- the files
 pub file-fits : (n : ℕ) → start_of n + size_of n ≤ 416
@@ -107,14 +88,13 @@ file-there f n start size e g =
 
 -- ---- the files with other bytes
 module _ (f : Files) (n at : ℕ) (p : List ℕ) where
-  pub bytes-laid : (b : List ℕ) (start : ℕ) → start ≡ start_of n → b ≡ laid p (start + at) f.bytes
-      → record { bytes = b; rules = f.rules; lens = f.lens } ≡ with_bytes f n at p
+  -- a place that no number of the code holds lies behind the last file, as the highest number does
+  pub bytes-laid : (b : List ℕ) (start place : ℕ) → length f.bytes ≡ 416 → start ≡ start_of n → place ≡ min (start + at) 18446744073709551615
+      → b ≡ laid p place f.bytes → record { bytes = b; rules = f.rules; lens = f.lens } ≡ with_bytes f n at p
   unfolding with_bytes
-  bytes-laid b start e h =
-      ap (λ (x : List ℕ). record { bytes = x; rules = f.rules; lens = f.lens }) (h ∙ ap (λ i. laid p (i + at) f.bytes) e)
-
-  -- bytes that begin behind the last file leave the files
-  pub bytes-behind : length f.bytes ≡ 416 → 416 < at → f ≡ with_bytes f n at p
-  unfolding with_bytes
-  bytes-behind l h =
-      ap (λ (x : List ℕ). record { bytes = x; rules = f.rules; lens = f.lens }) (sym (laid-not p (start_of n + at) f.bytes (omega arith)))
+  bytes-laid b start place l e g h =
+      let same_place : laid p place f.bytes ≡ laid p (start_of n + at) f.bytes =
+      ⊎_elim (λ k. let q : place ≡ start_of n + at = omega arith in ap (λ i. laid p i f.bytes) q)
+      (λ k. laid-not p place f.bytes (omega arith) ∙ sym (laid-not p (start_of n + at) f.bytes (omega arith)))
+      (le_or_lt (start + at) 18446744073709551615) in
+      ap (λ (x : List ℕ). record { bytes = x; rules = f.rules; lens = f.lens }) (h ∙ same_place)

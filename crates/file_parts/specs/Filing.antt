@@ -1,20 +1,16 @@
 -- 01, "Files": the part of a file that a read gives, and the files with other bytes.
-use Rattle.std.specs.Prelude.{List, ℕ, ◌+◌, min, length, take, drop, replicate}
+use Rattle.std.specs.Prelude.{List, ℕ, ◌+◌, min, take, drop}
 use Rattle.base.specs.Bytes.{laid}
 use Rattle.base.specs.Status.{iso_normal}
 use Rattle.messaging.specs.declared.Mode.{Mode}
 use Rattle.state.specs.declared.Files.{Files}
 use Rattle.state.specs.declared.Tag.{Tag}
 use Rattle.state.specs.State.{start_of, file_of}
-use Rattle.replies.specs.declared.Excerpt.{Excerpt}
 use Rattle.replies.specs.Answer.{Answer, given, accepted, afterwards}
 
--- of the code, not the paper: the part of a text from an offset on, so many bytes of it, at the front of the buffer that holds a
--- reply's data (258 bytes, of which data take at most 256)
-unfoldable pub part_of : List ℕ → ℕ → ℕ → Excerpt
-part_of text at count =
-    let x = take (min count 256) (drop at text) in
-    record { bytes = laid x 0 (replicate 258 0); length = length x }
+-- of the code, not the paper: the part of a text from an offset on, so many bytes of it, at most 256 as data of a reply
+unfoldable pub part_of : List ℕ → ℕ → ℕ → List ℕ
+part_of text at count = take (min count 256) (drop at text)
 
 -- a read of stored bytes, wrapped and ISO
 unfoldable pub stored : Tag → Mode → ℕ → ℕ → ℕ → Answer

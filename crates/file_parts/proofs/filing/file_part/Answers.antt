@@ -7,19 +7,17 @@ use Rattle.file_parts.proofs.Parts.{file-fits, file-there}
 use borrow.Author.Rules.{rules}
 use Rattle.file_parts.proofs.filing.file_part.Goals as goal
 
-pub overflow_add-start : goal.overflow_add-start
-overflow_add-start c = omega (arith, file-fits c.args.n, c.file_start-start.ensures, c.file_size-size.ensures)
+pub overflow_add-end : goal.overflow_add-end
+overflow_add-end c = omega (arith, file-fits c.args.n, c.file_start-start.ensures, c.file_size.ensures)
 
 pub slice_bounds-cut-end : goal.slice_bounds-cut-end
 slice_bounds-cut-end c =
     let a = c.args in
     let l : length a.f.bytes ≡ 416 = search rules in
-    omega (arith, file-fits a.n, c.file_start-start.ensures, c.file_size-size.ensures)
+    omega (arith, file-fits a.n, c.file_start-start.ensures, c.file_size.ensures)
 
 pub returns : goal.returns
 returns c =
     let a = c.args in
-    c.cut.ensures ∙ ap (λ s. part_of s a.at a.count)
-    (file-there a.f a.n c.file_start-start.result
-    c.file_size-size.result c.file_start-start.ensures
-    c.file_size-size.ensures)
+    c.cut.ensures.text ∙ ap (λ s. part_of s a.at a.count)
+    (file-there a.f a.n c.file_start-start.result c.file_size.result c.file_start-start.ensures c.file_size.ensures)
