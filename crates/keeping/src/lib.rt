@@ -1,17 +1,17 @@
 // What is kept of a tag between runs: what a file's bytes give a run to start from.
 #![tactic(auto)]
 
-ghost use Rattle.std.specs.Prelude.{◌≡◌};
-ghost use Rattle.keeping.specs.Keep.{fresh_start, Starts, earlier, start_by, Keeps};
+ghost use Rattle.std.specs.Prelude.{◌≡◌, false};
+ghost use Rattle.keeping.specs.declared.NoStart.TheVariants.{NoUid};
+ghost use Rattle.keeping.specs.Keep.{Starts, start_by, earlier, Keeps};
 
-use delivery::Made;
-use image::Found;
+use delivery::WrongUid;
+use image::NoImage;
 use state::Tag;
 
-// What a run starts from: the fresh tag or the file's, or why from none.
-#[derive(Clone, Copy)]
-pub enum Start {
-    Ready,
+// Why a run does not start.
+#[derive(Clone, Copy, Debug, PartialEq, Eq)]
+pub enum NoStart {
     OtherLength,
     OtherVersion,
     NotABit,
@@ -22,78 +22,57 @@ pub enum Start {
     EarlierVersion,
 }
 
-// The tag is the kept one where it is ready.
-#[derive(Clone, Copy)]
-pub struct Begun {
-    pub start: Start,
-    pub tag: Tag,
+impl From<WrongUid> for NoStart {
+    ghost from_gives = { λ _ e. e ≡ NoUid };
+
+    fn from(_e: WrongUid) -> NoStart {
+        NoStart::NoUid
+    }
 }
 
-fn fresh_start(made: Made) -> Start
-    ensures { result ≡ fresh_start made }
-{
-    match made {
-        Made::Fresh => Start::Ready,
-        Made::WrongUid => Start::NoUid,
+impl From<NoImage> for NoStart {
+    ghost from_gives = { λ found e. e ≡ start_by found false };
+
+    #[tactic(auto, unfolding(crate::specs::Keep::start_by))]
+    fn from(found: NoImage) -> NoStart {
+        match found {
+            NoImage::WrongLength => NoStart::OtherLength,
+            NoImage::WrongVersion => NoStart::OtherVersion,
+            NoImage::NotABoolean => NoStart::NotABit,
+        }
     }
 }
 
 // The fresh tag with a UID, where it is one.
-pub fn anew(uid: &[u8; 7]) -> Begun
+#[tactic(auto, unfolding(delivery::specs::Fresh::born, delivery::specs::Fresh::right_uid, crate::specs::Keep::fresh_start, crate::specs::Keep::start_number))]
+pub fn anew(uid: &[u8; 7]) -> Result<Tag, NoStart>
     ensures { Starts uid.now result }
 {
-    let b = delivery::fresh(uid);
-    let tag = b.tag;
-    let made = b.made;
-    let start = fresh_start(made);
-    Begun { start, tag }
+    Ok(delivery::fresh(uid)?)
 }
 
 // Whether the bytes are an image of version 1.
+#[tactic(auto, unfolding(crate::specs::Keep::earlier))]
 fn is_earlier(s: &[u8]) -> bool
     ensures { result ≡ earlier s.now }
 {
-    if s.len() == 672 {
-        return base::at(s, 0) == 1;
-    }
-    false
+    s.len() == 672 && s[0] == 1
 }
 
-// A whole image must hold a sound state of the tag that the plan is for.
-fn judged(found: Found, old: bool, sound: bool, mine: bool) -> Start
-    ensures { result ≡ start_by found old sound mine }
-{
-    match found {
-        Found::WrongLength => {
-            if old {
-                return Start::EarlierVersion;
-            }
-            Start::OtherLength
-        }
-        Found::WrongVersion => Start::OtherVersion,
-        Found::NotABoolean => Start::NotABit,
-        Found::Whole => {
-            if sound {
-                if mine {
-                    return Start::Ready;
-                }
-                return Start::OtherUid;
-            }
-            Start::Unsound
-        }
-    }
-}
-
-// The tag with this UID that a file's bytes hold, or why there is none.
-pub fn kept(s: &[u8], uid: &[u8; 7]) -> Begun
+// The tag with this UID that a file's bytes hold, or why there is none: a whole image must hold a sound state of the tag that
+// the plan is for.
+pub fn kept(s: &[u8], uid: &[u8; 7]) -> Result<Tag, NoStart>
     ensures { Keeps s.now uid.now result }
 {
-    let r = restoring::from_image(s);
-    let found = r.found;
-    let tag = r.tag;
-    let u = tag.uid;
-    let sound = soundness::sound(tag);
-    let mine = base::alike(uid, &u);
-    let start = judged(found, is_earlier(s), sound, mine);
-    Begun { start, tag }
+    if is_earlier(s) {
+        return Err(NoStart::EarlierVersion);
+    }
+    let tag = restoring::from_image(s)?;
+    if !soundness::sound(tag) {
+        return Err(NoStart::Unsound);
+    }
+    if *uid != tag.uid {
+        return Err(NoStart::OtherUid);
+    }
+    Ok(tag)
 }
