@@ -1,12 +1,12 @@
 -- 9.1.5, 9.1.6, 10.4.1 and 10.4.2: the two parts of an authentication. All with CBC, zero vector, no padding.
-use Rattle.std.specs.Prelude.{List, ◌++◌, ℕ, eqb, length, take, drop, replicate}
+use Rattle.std.specs.Prelude.{List, ◌++◌, ℕ, eqb, length, take, drop, replicate, Result, Ok, Err}
 use Rattle.base.specs.Decide.{pick}
 use Rattle.base.specs.Bytes.{same}
 use Rattle.base.specs.Status.{operation_ok, length_error, authentication_error}
 use Rattle.cbc.specs.Cbc.{cbc_out, cbc_back, cbc_cost}
 use Rattle.key_expansion.specs.Keys.{key_expansion}
-use Rattle.authentication.specs.declared.Proof.{Proof}
-use Rattle.authentication.specs.declared.Proof.TheVariants.{Right, NotThirtyTwo, WrongRndB}
+use Rattle.authentication.specs.declared.Wrong.{Wrong}
+use Rattle.authentication.specs.declared.Wrong.TheVariants.{NotThirtyTwo, WrongRndB}
 use Rattle.authentication.specs.declared.PartTwo.{PartTwo}
 
 abbrev pub zeros : ℕ → List ℕ
@@ -27,28 +27,24 @@ turned x = drop 1 x ++ take 1 x
 unfoldable pub challenge : List ℕ → List ℕ → List ℕ → List ℕ
 challenge kx a b = enciphered kx (a ++ turned b)
 
--- the check of part two: 32 bytes, then RndB'
-unfoldable pub proof_of : List ℕ → List ℕ → List ℕ → Proof
-proof_of kx b x = pick (eqb (length x) 32) (pick (same (drop 16 (deciphered kx x)) (turned b)) Right WrongRndB) NotThirtyTwo
-
--- RndA, which a refused part two leaves at zeros
-abbrev pub a_of : List ℕ → Proof → List ℕ
-a_of d Right = take 16 d
-a_of d NotThirtyTwo = zeros 16
-a_of d WrongRndB = zeros 16
+-- the check of part two: 32 bytes, then RndB'; what is right gives RndA
+unfoldable pub proof_of : List ℕ → List ℕ → List ℕ → Result (List ℕ) Wrong
+proof_of kx b x =
+    let d = deciphered kx x in
+    pick (eqb (length x) 32) (pick (same (drop 16 d) (turned b)) (Ok (take 16 d)) (Err WrongRndB)) (Err NotThirtyTwo)
 
 -- 02, request 10: what the check costs: both blocks, where there are two
 unfoldable pub proof_cost : List ℕ → ℕ
 proof_cost x = pick (eqb (length x) 32) (cbc_cost 32) 0
 
 unfoldable pub part_two : List ℕ → List ℕ → List ℕ → PartTwo
-part_two kx b x = record { proof = proof_of kx b x; a = a_of (deciphered kx x) (proof_of kx b x); cost = proof_cost x }
+part_two kx b x = record { a = proof_of kx b x; cost = proof_cost x }
 
 -- 01's status for each answer
-unfoldable pub proof_status : Proof → ℕ
-proof_status Right = operation_ok
-proof_status NotThirtyTwo = length_error
-proof_status WrongRndB = authentication_error
+unfoldable pub proof_status : Result (List ℕ) Wrong → ℕ
+proof_status (Ok a) = operation_ok
+proof_status (Err NotThirtyTwo) = length_error
+proof_status (Err WrongRndB) = authentication_error
 
 -- the reply of part two: TI, RndA', PDcap2 (six zeros) and PCDcap2 for 71, RndA' for 77
 unfoldable pub first_reply : List ℕ → List ℕ → List ℕ → List ℕ → List ℕ

@@ -7,4 +7,4 @@ use Rattle.authentication.proofs.next_reply.Goals as goal
 
 pub returns : goal.returns
 unfolding next_reply
-returns c = c.encipher_one.ensures ∙ ap (λ x. counted (enciphered c.args.kx x) (cbc_cost 16)) c.turn.ensures
+returns c = c.encipher.ensures ∙ ap (λ x. counted (enciphered c.args.kx x) (cbc_cost 16)) c.turn.ensures

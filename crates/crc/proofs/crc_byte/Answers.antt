@@ -1,18 +1,24 @@
 -- `crc::crc_byte` meets its contract: what is still to do is the whole.
-use Rattle.crc.proofs.CrcSteps.{bits_step}
-use Rattle.crc.specs.Crc.{crc_bits}
-use native.Mathlib.Omega.{arith}
 use mathlib.Core.Path.{◌≡◌, refl, sym, ap, ◌∙◌}
-use Prim.Native.Nat.{◌-◌}
+use Prim.Native.Nat.{◌+◌, ◌-◌}
+use native.Mathlib.Omega.{arith}
+use Rattle.std.specs.Int.Bits.{bit_xor}
+use Rattle.crc.specs.Crc.{crc_bits}
+use Rattle.crc.proofs.CrcSteps.{bits_step}
 use Rattle.crc.proofs.crc_byte.Goals as goal
 
-pub loop-left-init : goal.loop-left-init
-loop-left-init c = refl
+pub loop-init : goal.loop-init
+loop-init c = refl
 
-pub loop-left-preserved : goal.loop-left-preserved
-loop-left-preserved c = ap (crc_bits (c.loop-left.left - 1)) c.crc_bit-n.ensures
-    ∙ sym (bits_step c.loop-left.left c.loop-left.v (omega arith)) ∙ c.loop-left.invariant
+pub loop-preserved : goal.loop-preserved
+loop-preserved c =
+    let l = c.loop in
+    let e : 8 - (l.counter + 1) ≡ 8 - l.counter - 1 = omega arith in
+    ap (λ n. crc_bits n c.crc_bit-v.result) e ∙ ap (crc_bits (8 - l.counter - 1)) c.crc_bit-v.ensures
+    ∙ sym (bits_step (8 - l.counter) l.v (omega arith)) ∙ l.invariant
 
 pub returns : goal.returns
 unfolding crc_bits
-returns c = let e : c.loop-left.left ≡ 0 = omega arith in rw e at c.loop-left.invariant
+returns c =
+    let e : 8 - c.loop.counter ≡ 0 = omega arith in
+    (rw e at c.loop.invariant) ∙ ap (λ x. crc_bits 8 (bit_xor c.args.c x)) c.from.ensures
