@@ -26,12 +26,6 @@ one_is false = refl
 pub bit_is : (x k : ℕ) (b : Bool) → x / 2 ^ k % 2 ≡ one b → bit k x ≡ b
 bit_is x k b e = ap (λ y. eqb y 1) e ∙ one_is b
 
-pub one_bit : (y : ℕ) → one (eqb (y % 2) 1) ≡ y % 2
-one_bit y =
-    ⊎_elim (λ (h : 1 ≤ y % 2). let e : y % 2 ≡ 1 = omega arith in rw (eq-eqb (y % 2) 1 e) (sym e))
-    (λ (h : y % 2 < 1). let e : y % 2 ≡ 0 = omega arith in rw (ne_eqb (y % 2) 1 (λ f. omega arith)) (sym e))
-    (le_or_lt 1 (y % 2))
-
 -- ---- a test that is computed for every number below a bound
 pub all_below : ℕ → (ℕ → Bool) → Bool
 all_below zero f = true
@@ -47,7 +41,7 @@ all_below_lem (suc n) f e x h =
 
 implied : (a b : Bool) → a ≡ true → or (not a) b ≡ true → b ≡ true
 implied true b e h = h
-implied false b e h = let z : ◌≡◌ {A = ℕ} 0 1 = cc in absurd (omega arith)
+implied false b e h = cc
 
 -- SDMOptions from its bits
 options_test : ℕ → Bool

@@ -3,7 +3,6 @@ use mathlib.Core.Path.{◌≡◌, refl, sym, ap, ◌∙◌}
 use mathlib.Core.Bool.{Bool, true, false}
 use mathlib.Core.List.{List, [], ◌∷◌}
 use Prim.Native.Nat.{ℕ, ◌≤◌}
-use native.Mathlib.Omega.{arith}
 use lib.Dec.{eqb, ltb}
 use lib.ListN.{length}
 use borrow.Author.Tests.{leb-true, eqb-true}
@@ -38,12 +37,12 @@ pub record Held (b : Bool) (rs : List Rule) : Type 0 where
 pub held-there : (p : Part) (b : Bool) (rs : List Rule) → found (there p b ∷ rs) ≡ Ok tt → Held b rs
 unfolding found
 held-there p true rs e = record { first = refl; rest = e }
-held-there p false rs e = let z : ◌≡◌ {A = ℕ} 0 1 = cc in absurd (omega arith)
+held-there p false rs e = cc
 
 pub held-right : (k : Check) (b : Bool) (rs : List Rule) → found (right k b ∷ rs) ≡ Ok tt → Held b rs
 unfolding found
 held-right k true rs e = record { first = refl; rest = e }
-held-right k false rs e = let z : ◌≡◌ {A = ℕ} 0 1 = cc in absurd (omega arith)
+held-right k false rs e = cc
 
 pub kept_is : (f : Result (Unit {0}) Broken) → kept f ≡ true → f ≡ Ok tt
 unfolding kept
@@ -57,8 +56,8 @@ good_kept (Err b) e = cc
 
 -- a string is good only for a file that there is
 file-good : (a b : Bool) (v : Verdict) → pick a (Err (File OverThirtyOne)) (pick b (Err (File NoSuchFile)) v) ≡ Ok tt → v ≡ Ok tt
-file-good true b v e = let z : ◌≡◌ {A = ℕ} 0 1 = cc in absurd (omega arith)
-file-good false true v e = let z : ◌≡◌ {A = ℕ} 0 1 = cc in absurd (omega arith)
+file-good true b v e = cc
+file-good false true v e = cc
 file-good false false v e = e
 
 pub kept_rules : (n : ℕ) (s : List ℕ) → judged n s ≡ Ok tt → found (rules n s) ≡ Ok tt

@@ -52,7 +52,7 @@ all_disjoint (a ∷ ss) e (suc j) (suc k) h = all_disjoint ss (and_right (apart_
 -- a condition "or not present" of something present
 when : (p b : Bool) → p ≡ true → or (not p) b ≡ true → b ≡ true
 when true b e h = h
-when false b e h = let z : ◌≡◌ {A = ℕ} 0 1 = cc in absurd (omega arith)
+when false b e h = cc
 
 -- ---- with SDM off nothing is present
 off_byte : (s : List ℕ) (i : ℕ) → sdm_on s ≡ false → sdm_byte s i ≡ 0

@@ -289,7 +289,7 @@ unfolding any_of fields fields_fit field_fits
 none_fields [] [] s i a m f = refl
 none_fields [] (v ∷ vs) s i a m f = absurd (omega arith)
 none_fields (p ∷ ps) [] s i a m f = absurd (omega arith)
-none_fields (true ∷ ps) (v ∷ vs) s i a m f = let z : ◌≡◌ {A = ℕ} 0 1 = cc in absurd (omega arith)
+none_fields (true ∷ ps) (v ∷ vs) s i a m f = cc
 none_fields (false ∷ ps) (v ∷ vs) s i a m f =
     ap₂ (λ x y. x ∷ y) (sym (eqb-true v 0 (and_left (eqb v 0) (fields_fit ps vs) f)))
     (none_fields ps vs s (i + 0) a (omega arith) (and_right (eqb v 0) (fields_fit ps vs) f))
