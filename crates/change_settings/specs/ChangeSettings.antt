@@ -1,12 +1,12 @@
 -- 01: ChangeFileSettings (10.7.1).
-use Rattle.std.specs.Prelude.{Bool, not, List, [], ◌∷◌, ◌++◌, ℕ, ◌-◌, ◌*◌, length, replicate}
+use Rattle.std.specs.Prelude.{Bool, not, List, [], ◌∷◌, ◌++◌, ℕ, ◌-◌, ◌*◌, length, replicate, Ok, Err}
 use Rattle.base.specs.Decide.{pick, and}
 use Rattle.base.specs.Bytes.{laid}
 use Rattle.messaging.specs.declared.Mode.{Mode}
-use Rattle.settings.specs.declared.Verdict.{Verdict}
-use Rattle.settings.specs.declared.Verdict.TheVariants.{Good, Refused, WrongFile}
-use Rattle.settings.specs.Answers.{judged, status_word}
-use Rattle.settings.specs.Filing.{file_fault_word}
+use Rattle.base.specs.Status.{length_error}
+use Rattle.normalising.specs.declared.NotNormal.{NotNormal}
+use Rattle.normalising.specs.declared.NotNormal.TheVariants.{Fault, RoomTooSmall}
+use Rattle.settings.specs.Answers.{Verdict, judged, fault_word}
 use Rattle.fields.specs.Fields.{sdm_on}
 use Rattle.fields.specs.Normal.{normal}
 use Rattle.spans.specs.declared.Reading.{Reading}
@@ -30,12 +30,16 @@ recounted t before after =
 unfoldable pub restrung : Tag → Bool → Bool → Files → Tag
 restrung t before after f = filed (tapped t (recounted t.tap before after)) f
 
+-- the status of a string that has no normal form; no good string is too long for 27 bytes
+abbrev pub refusal_word : NotNormal → ℕ
+refusal_word (Fault e) = fault_word e
+refusal_word RoomTooSmall = length_error
+
 -- the tag stores the normal form; r are the file's settings before
 abbrev pub by_verdict : Tag → ℕ → Reading → List ℕ → Mode → Verdict → Answer
-by_verdict t n r p m Good =
+by_verdict t n r p m (Ok _) =
     accepted (restrung t r.settings.head.sdm (sdm_on p) (with_rules t.files n (normal p ++ replicate (27 - length p) 0) (length p))) m []
-by_verdict t n r p m (Refused e) = refusal t (status_word e)
-by_verdict t n r p m (WrongFile f) = refusal t (file_fault_word f)
+by_verdict t n r p m (Err e) = refusal t (fault_word e)
 
 unfoldable pub changed_settings : Tag → ℕ → Reading → List ℕ → Mode → Answer
 changed_settings t n r p m = by_verdict t n r p m (judged n p)
