@@ -1,54 +1,51 @@
 // ISOSelectFile (10.9.1).
 #![tactic(auto)]
 
-ghost use Rattle.std.specs.Prelude.{◌≡◌, eqb};
-ghost use Rattle.base.specs.Decide.{or};
+ghost use Rattle.std.specs.Prelude.{◌≡◌};
 ghost use Rattle.replies.specs.Answer.{Gives};
 ghost use Rattle.selects.specs.Selects.{moved, selected_file, of_id, by_id, by_name, selected};
 
+use buffers::Buffer;
 use replies::Done;
 use state::{Place, Tag};
+use statuses::Status;
 
 // PICC or application: session and file selection end.
+#[tactic(auto, unfolding(crate::specs::Selects::moved, state::specs::State::placed))]
 fn move_to(tag: Tag, application: bool) -> Done
     ensures { Gives (moved tag application) result }
 {
-    let mut t = state::ended(tag);
-    let p = Place {
+    let place = Place {
         application,
         file: 0,
     };
-    t.place = p;
-    replies::give(t, 0x9000, [0; 258], 0, 0)
+    let moved = Tag {
+        place,
+        ..state::ended(tag)
+    };
+    replies::give(moved, Status::IsoNormal, Buffer::empty(), 0)
 }
 
 // A file needs the application, and keeps the session.
+#[tactic(auto, unfolding(crate::specs::Selects::selected_file))]
 fn select_file(tag: Tag, n: u8) -> Done
     ensures { Gives (selected_file tag n) result }
 {
     if tag.place.application {
-        let mut t = tag;
-        let p = Place {
+        let place = Place {
             application: true,
             file: n,
         };
-        let q = state::quiet(t.tap);
-        t.place = p;
-        t.tap = q;
-        return replies::give(t, 0x9000, [0; 258], 0, 0);
+        let tap = state::quiet(tag.tap);
+        let selected = Tag { place, tap, ..tag };
+        return replies::give(selected, Status::IsoNormal, Buffer::empty(), 0);
     }
-    replies::refuse(tag, 0x6A82)
-}
-
-// A byte as a wider number.
-fn wide(b: u8) -> u32
-    ensures { result ≡ b }
-{
-    b as u32
+    replies::refuse(tag, Status::IsoNotFound)
 }
 
 // 3F00, E110, E103 to E105.
-fn of_id(tag: Tag, id: u32) -> Done
+#[tactic(auto, unfolding(crate::specs::Selects::of_id))]
+fn of_id(tag: Tag, id: u16) -> Done
     ensures { Gives (of_id tag id) result }
 {
     match id {
@@ -57,24 +54,24 @@ fn of_id(tag: Tag, id: u32) -> Done
         0xE103 => select_file(tag, 1),
         0xE104 => select_file(tag, 2),
         0xE105 => select_file(tag, 3),
-        _ => replies::refuse(tag, 0x6A82),
+        _ => replies::refuse(tag, Status::IsoNotFound),
     }
 }
 
 // An id of two bytes, or nothing for the PICC.
+#[tactic(auto, unfolding(crate::specs::Selects::by_id))]
 fn select_id(tag: Tag, d: &[u8]) -> Done
     ensures { Gives (by_id tag d.now) result }
 {
-    if d.len() == 0 {
-        return move_to(tag, false);
+    match d {
+        [] => move_to(tag, false),
+        [high, low] => of_id(tag, u16::from_be_bytes([*high, *low])),
+        _ => replies::refuse(tag, Status::IsoWrongData),
     }
-    if d.len() == 2 {
-        return of_id(tag, wide(base::at(d, 0)) * 256 + wide(base::at(d, 1)));
-    }
-    replies::refuse(tag, 0x6A80)
 }
 
 // D2760000850100 or D2760000850101.
+#[tactic(auto, unfolding(crate::specs::Selects::by_name))]
 fn select_name(tag: Tag, d: &[u8]) -> Done
     ensures { Gives (by_name tag d.now) result }
 {
@@ -84,31 +81,20 @@ fn select_name(tag: Tag, d: &[u8]) -> Done
     if base::alike(d, &[0xD2, 0x76, 0x00, 0x00, 0x85, 0x01, 0x01]) {
         return move_to(tag, true);
     }
-    replies::refuse(tag, 0x6A82)
+    replies::refuse(tag, Status::IsoNotFound)
 }
 
-// P2 00 or 0C.
-fn known_p2(p2: u8) -> bool
-    ensures { result ≡ or (eqb p2 0) (eqb p2 0x0C) }
-{
-    if p2 == 0 {
-        return true;
-    }
-    p2 == 0x0C
-}
-
-// P1 00, 01, 02 by id, 04 by name.
+// P2 00 or 0C; P1 00, 01, 02 by id, 04 by name.
+#[tactic(auto, unfolding(crate::specs::Selects::selected))]
 pub fn select(tag: Tag, p1: u8, p2: u8, d: &[u8]) -> Done
     ensures { Gives (selected tag p1 p2 d.now) result }
 {
-    if known_p2(p2) {
-        if p1 <= 2 {
-            return select_id(tag, d);
-        }
-        if p1 == 4 {
-            return select_name(tag, d);
-        }
-        return replies::refuse(tag, 0x6A86);
+    if p2 != 0 && p2 != 0x0C {
+        return replies::refuse(tag, Status::IsoWrongP1P2);
     }
-    replies::refuse(tag, 0x6A86)
+    match p1 {
+        0..=2 => select_id(tag, d),
+        4 => select_name(tag, d),
+        _ => replies::refuse(tag, Status::IsoWrongP1P2),
+    }
 }
