@@ -4,101 +4,92 @@
 ghost use Rattle.std.specs.Prelude.{◌≡◌, eqb};
 ghost use Rattle.std.specs.Int.Bits.{bit_xor};
 ghost use Rattle.base.specs.Decide.{pick};
-ghost use Rattle.state.specs.State.{keyed};
+ghost use Rattle.statuses.specs.Words.{word_or_0};
 ghost use Rattle.replies.specs.Answer.{Gives};
 ghost use Rattle.keyring.specs.Keyring.{new_key, change_status, with_key, changed_key, key_version};
 
+use buffers::Buffer;
 use messaging::Mode;
 use replies::Done;
 use state::{Secrets, Tag};
+use statuses::Status;
 
 // A byte of the new key: as it came for key 0, else summed with the old key's.
 fn key_byte(came: u8, old: u8, k: u8) -> u8
     ensures { result ≡ pick (eqb k 0) came (bit_xor came old) }
 {
-    if k == 0 {
-        return came;
-    }
-    came ^ old
+    if k == 0 { came } else { came ^ old }
 }
 
 // The new key.
 fn new_key(p: &[u8], old: [u8; 16], k: u8) -> [u8; 16]
     ensures { result ≡ new_key p.now old k }
 {
-    let mut r = [0u8; 16];
-    let mut i = 0;
-    while i < 16 {
-        r[i] = key_byte(base::at(p, i), base::at(&old, i), k);
-        i += 1;
+    let mut new = [0; 16];
+    for i in 0..16 {
+        new[i] = key_byte(base::at(p, i), old[i], k);
     }
-    r
+    new
 }
 
-// 0, or what refuses it: other lengths 917E, wrong CRC 911E.
-fn change_status(p: &[u8], k: u8, new: [u8; 16]) -> u16
-    ensures { result ≡ change_status p.now k new }
+// What refuses it: other lengths 917E, wrong CRC 911E.
+#[tactic(auto, unfolding(crate::specs::Keyring::change_status), using(crate::proofs::Changing::rest_whole))]
+fn change_status(p: &[u8], k: u8, new: [u8; 16]) -> Result<(), Status>
+    ensures { word_or_0 result ≡ change_status p.now k new }
 {
-    if k == 0 {
-        if p.len() == 17 {
-            return 0;
-        }
-        return 0x917E;
+    let length = if k == 0 { 17 } else { 21 };
+    if p.len() != length {
+        return Err(Status::LengthError);
     }
-    if p.len() == 21 {
-        let c = crc::crc_of(&new);
-        if base::alike(&p[17..], &c) {
-            return 0;
-        }
-        return 0x911E;
+    if k != 0 && !base::alike(&p[17..], &crc::crc_of(&new)) {
+        return Err(Status::IntegrityError);
     }
-    0x917E
+    Ok(())
 }
 
 // The secrets with another key k and its version.
-fn with_key(s: Secrets, k: u8, new: [u8; 16], version: u8) -> Secrets
-    ensures { result ≡ with_key s k new version }
+#[tactic(auto, unfolding(crate::specs::Keyring::with_key))]
+fn with_key(secrets: Secrets, k: u8, new: [u8; 16], version: u8) -> Secrets
+    ensures { result ≡ with_key secrets k new version }
 {
-    let mut keys = s.keys;
-    let mut versions = s.versions;
-    base::put(&new, &mut keys, k as usize * 16);
-    base::put(&[version], &mut versions, k as usize);
+    let Secrets {
+        mut keys,
+        mut versions,
+    } = secrets;
+    let slot = usize::from(k);
+    base::put(&new, &mut keys, slot * 16);
+    base::put(&[version], &mut versions, slot);
     Secrets { keys, versions }
 }
 
-// The tag with other secrets.
-fn keyed_with(tag: Tag, s: Secrets) -> Tag
-    ensures { result ≡ keyed tag s }
-{
-    let mut t = tag;
-    t.secrets = s;
-    t
-}
-
 // ChangeKey of key k. Changing key 0 ends the session, and the reply has no MAC.
+#[tactic(auto, unfolding(crate::specs::Keyring::changed_key, state::specs::State::keyed))]
 pub fn change_key(tag: Tag, k: u8, p: &[u8]) -> Done
     ensures { Gives (changed_key tag k p.now) result }
 {
-    let keys = tag.secrets.keys;
-    let old = state::key_of(keys, k);
-    let new = new_key(p, old, k);
-    let s = change_status(p, k, new);
-    if s == 0 {
-        let t = keyed_with(tag, with_key(tag.secrets, k, new, base::at(p, 16)));
-        if k == 0 {
-            return replies::give(state::ended(t), 0x9100, [0; 258], 0, 0);
-        }
-        return replies::accept(t, Mode::Full, [0; 258], 0);
+    let new = new_key(p, state::key_of(tag.secrets.keys, k), k);
+    if let Err(status) = change_status(p, k, new) {
+        return replies::refuse(tag, status);
     }
-    replies::refuse(tag, s)
+    let secrets = with_key(tag.secrets, k, new, base::at(p, 16));
+    let changed = Tag { secrets, ..tag };
+    if k == 0 {
+        return replies::give(
+            state::ended(changed),
+            Status::OperationOk,
+            Buffer::empty(),
+            0,
+        );
+    }
+    replies::accept(changed, Mode::Full, Buffer::empty())
 }
 
 // GetKeyVersion of key k.
-pub fn key_version(tag: Tag, k: u8, m: Mode) -> Done
-    ensures { Gives (key_version tag k m) result }
+#[tactic(auto, unfolding(crate::specs::Keyring::key_version), using(replies::proofs::Given::buffer_given))]
+pub fn key_version(tag: Tag, k: u8, mode: Mode) -> Done
+    ensures { Gives (key_version tag k mode) result }
 {
     let versions = tag.secrets.versions;
-    let mut bytes = [0u8; 258];
-    base::put(&[base::at(&versions, k as usize)], &mut bytes, 0);
-    replies::accept(tag, m, bytes, 1)
+    let version = base::at(&versions, usize::from(k));
+    replies::accept(tag, mode, Buffer::of(&[version]))
 }

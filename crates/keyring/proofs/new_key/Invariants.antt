@@ -1,4 +1,4 @@
-use Prim.Native.Nat.{◌-◌, ◌≤◌}
+-- `keyring::new_key`: a table filled byte by byte.
 use lib.Dec.{eqb}
 use lib.Bits.{bit_xor}
 use Rattle.base.specs.Decide.{pick}
@@ -6,9 +6,5 @@ use Rattle.base.specs.Bytes.{byte_at}
 use Rattle.base.proofs.Fill.{Filled}
 use Rattle.keyring.proofs.new_key.Given as goal
 
--- `keyring::new_key` meets its contract: a table filled byte by byte.
 abbrev pub invariant-loop-i : goal.invariant-loop-i
-invariant-loop-i l = (l.i ≤ 16) × Filled 0 16 (λ j. pick (eqb l.k 0) (byte_at l.p j) (bit_xor (byte_at l.p j) (byte_at l.old j))) l.r l.i
-
-abbrev pub decreases-loop-i : goal.decreases-loop-i
-decreases-loop-i l = 16 - l.i
+invariant-loop-i l = Filled 0 16 (λ j. pick (eqb l.k 0) (byte_at l.p j) (bit_xor (byte_at l.p j) (byte_at l.old j))) l.new l.i
