@@ -67,8 +67,8 @@ impl From<Fault> for u16 {
     #[tactic(auto, unfolding(crate::specs::Answers::fault_word))]
     fn from(fault: Fault) -> u16 {
         match fault {
-            Fault::String(status) => status.into(),
-            Fault::File(fault) => fault.into(),
+            Fault::String(reason) => reason.into(),
+            Fault::File(reason) => reason.into(),
         }
     }
 }
@@ -108,8 +108,8 @@ impl From<Broken> for Fault {
 
     fn from(broken: Broken) -> Fault {
         match broken {
-            Broken::Missing(_) => Fault::String(Status::LengthError),
-            Broken::Wrong(_) => Fault::String(Status::ParameterError),
+            Broken::Missing(_) => Status::LengthError.into(),
+            Broken::Wrong(_) => Status::ParameterError.into(),
         }
     }
 }
