@@ -1,13 +1,13 @@
 -- Both ends of an authentication with the same key: each learns the other's random number, and their session keys agree.
-use mathlib.Core.Path.{◌≡◌, refl, ap₂, ◌∙◌}
+use mathlib.Core.Path.{◌≡◌, refl, ap, ap₂, ◌∙◌}
 use mathlib.Core.List.{List, ◌++◌}
-use Prim.Native.Nat.{ℕ, zero, suc, ◌+◌, ◌%◌, ◌<◌}
+use Prim.Native.Nat.{ℕ, zero, suc, ◌+◌, ◌%◌}
 use native.Mathlib.Omega.{arith}
 use lib.Dec.{lit<}
 use lib.ListN.{length, take, drop, length-append, length-take, length-drop}
 use lib.Seq.{take_at, drop_at}
 use borrow.Author.Tests.{eq-eqb}
-use Rattle.base.specs.Bytes.{AllBytes, same}
+use Rattle.base.specs.Bytes.{AllBytes}
 use Rattle.base.proofs.Bytes.{append-bytes, drop-bytes, take-bytes, same_refl}
 use Rattle.aes.specs.Block.{IsBlock}
 use Rattle.key_expansion.specs.Keys.{key_expansion}
@@ -16,7 +16,7 @@ use Rattle.inverse.proofs.Chaining.{cbc_out-length, cbc_back_of_out}
 use Rattle.session_keys.specs.Keys.{session_keys}
 use Rattle.cbc.specs.Cbc.{cbc_cost}
 use Rattle.authentication.specs.Authentication.{zeros, enciphered, deciphered, turned, challenge, proof_of, proof_cost, part_two, first_reply, next_reply}
-use Rattle.authentication.specs.declared.Proof.TheVariants.{Right}
+use Rattle.std.proofs.Common.{Ok}
 
 zeros-bytes : (n : ℕ) → AllBytes (zeros n)
 unfolding AllBytes
@@ -65,16 +65,18 @@ module _ (kx a b : List ℕ) (k : IsBlock kx) (ha : IsBlock a) (hb : IsBlock b) 
   challenge-length = enciphered-length kx (a ++ turned b) k both_bytes (rw both_length refl) ∙ both_length
 
   -- the tag accepts part two, and learns RndA
-  pub part_two_right : part_two kx b (challenge kx a b) ≡ record { proof = Right; a = a; cost = cbc_cost 32 }
+  pub part_two_right : part_two kx b (challenge kx a b) ≡ record { a = Ok a; cost = cbc_cost 32 }
   unfolding part_two proof_of proof_cost
   part_two_right =
       rw (eq-eqb (length (challenge kx a b)) 32 challenge-length, both_back, drop_at a (turned b) 16 ha.len, same_refl (turned b), take_at a (turned b) 16 ha.len) refl
 
   -- the two ends compute the same session keys: the tag from its RndB and the RndA it was sent, the other end from its RndA and
   -- the RndB it was sent
-  pub same_keys : session_keys kx (part_two kx b (challenge kx a (deciphered kx (enciphered kx b)))).a b
-      ≡ session_keys kx a (deciphered kx (enciphered kx b))
-  same_keys = rw (block_back kx b k hb, part_two_right) refl
+  pub same_keys : (x : List ℕ) × ((part_two kx b (challenge kx a (deciphered kx (enciphered kx b)))).a ≡ Ok x)
+      × (session_keys kx x b ≡ session_keys kx a (deciphered kx (enciphered kx b)))
+  same_keys =
+      let l : deciphered kx (enciphered kx b) ≡ b = block_back kx b k hb in
+      (a, rw l (ap (λ y. y.a) part_two_right), rw l refl)
 
   -- and the other end finds RndA' in the reply of 77
   pub next_reply-back : deciphered kx (next_reply kx a) ≡ turned a

@@ -9,7 +9,6 @@ use lib.Dec.{lit<}
 use lib.ListN.{length, take, drop, replicate, length-append}
 use lib.Seq.{take-length, take-append_seam, drop-append_seam}
 use borrow.Author.Tests.{eq-eqb, le-leb, lt-leb, le-ltb}
-use Rattle.base.specs.Decide.{and}
 use Rattle.base.specs.Bytes.{AllBytes, over, same}
 use Rattle.base.proofs.Bytes.{append-bytes, same_refl, le_or_lt}
 use Rattle.aes.specs.Block.{IsBlock}
