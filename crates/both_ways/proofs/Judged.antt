@@ -5,15 +5,16 @@ use mathlib.Core.List.{List}
 use Prim.Native.Nat.{ℕ, ◌≤◌}
 use lib.Dec.{eqb, leb}
 use lib.ListN.{length}
+use Rattle.std.specs.Prelude.{Err}
+use Rattle.std.specs.Result.{result_unwrap_or}
 use Rattle.base.specs.Decide.{pick, and}
 use Rattle.base.specs.Bytes.{byte_at}
 use Rattle.state.specs.declared.Tag.{Tag}
 use Rattle.delivery.specs.Fresh.{blank}
 use Rattle.state.specs.State.{reading_in}
 use Rattle.soundness.specs.Sound.{rules_sound, keys_sound, alone_sound, padding_sound, level_sound, sound_tag}
-use Rattle.image.specs.declared.Found.TheVariants.{Whole, WrongLength, WrongVersion, NotABoolean}
-use Rattle.image.specs.Image.{image_version, tag_in}
-use Rattle.image.specs.Answers.{bits_at, booleans, right_length, whole, refused_as, read_in}
+use Rattle.image.specs.declared.NoImage.{NoImage}
+use Rattle.image.specs.Answers.{read_in}
 use Rattle.tag.specs.declared.Outcome.TheVariants.{Replied, Unsound}
 use Rattle.tag.specs.Call.{outcome_of}
 use Rattle.tag.proofs.Calling.{sound-or-not}
@@ -41,20 +42,11 @@ zeros-unsound : sound_tag blank ≡ false
 unfolding blank
 zeros-unsound = other_uid blank refl
 
-zeros_beside : (a b c : Bool) (t : Tag)
-    → ((pick a (pick b (pick c (whole t) (refused_as NotABoolean)) (refused_as WrongVersion)) (refused_as WrongLength)).found ≡ Whole → ⊥)
-    → (pick a (pick b (pick c (whole t) (refused_as NotABoolean)) (refused_as WrongVersion)) (refused_as WrongLength)).tag ≡ blank
-zeros_beside true true true t h = absurd (h refl)
-zeros_beside true true false t h = refl
-zeros_beside true false c t h = refl
-zeros_beside false b c t h = refl
+no_state : (s : List ℕ) (e : NoImage) → read_in s ≡ Err e → state_in s ≡ blank
+no_state s e h = ap (λ r. result_unwrap_or r blank) h
 
-no_state : (s : List ℕ) → ((read_in s).found ≡ Whole → ⊥) → state_in s ≡ blank
-unfolding read_in
-no_state s h = zeros_beside (right_length s) (eqb (byte_at s 0) image_version) (bits_at s booleans) (tag_in s) h
-
-pub no_state-unsound : (s random room : List ℕ) → ((read_in s).found ≡ Whole → ⊥) → 258 ≤ length room → length random ≡ 20
+pub no_state-unsound : (s random room : List ℕ) (e : NoImage) → read_in s ≡ Err e → 258 ≤ length room → length random ≡ 20
     → outcome_of (state_in s) random room ≡ Unsound
-no_state-unsound s random room h k e =
-    ap (λ t. outcome_of t random room) (no_state s h) ∙ sound-or-not blank random room k e
+no_state-unsound s random room e h k l =
+    ap (λ t. outcome_of t random room) (no_state s e h) ∙ sound-or-not blank random room k l
     ∙ ap (λ b. pick b Replied Unsound) zeros-unsound

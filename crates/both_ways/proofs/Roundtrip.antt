@@ -8,6 +8,8 @@ use lib.Dec.{eqb, leb, lit<}
 use lib.ListN.{length, get_or, take}
 use lib.Seq.{take-length}
 use borrow.Author.Tests.{eq-eqb, eqb-true, leb-true}
+use Rattle.std.specs.Prelude.{Ok, Err}
+use Rattle.std.specs.Result.{is_ok}
 use Rattle.base.specs.Decide.{pick, and}
 use Rattle.base.specs.Bytes.{byte_at, number, AllBytes}
 use Rattle.base.proofs.Bytes.{and_left, and_right}
@@ -19,11 +21,10 @@ use Rattle.state.specs.declared.Pending.{Pending}
 use Rattle.state.specs.declared.Place.{Place}
 use Rattle.state.specs.declared.Tapping.{Tapping}
 use Rattle.state.specs.declared.Tag.{Tag}
-use Rattle.image.specs.declared.Found.{Found}
-use Rattle.image.specs.declared.Found.TheVariants.{Whole, WrongLength, WrongVersion, NotABoolean}
+use Rattle.image.specs.declared.NoImage.TheVariants.{WrongLength, WrongVersion, NotABoolean}
 use Rattle.image.specs.Image.{image_version, join, bytes_from, flag_byte, flag, file_pieces, secret_pieces, live_pieces, pending_pieces, place_bytes}
 use Rattle.image.specs.Image.{tap_pieces, tag_pieces, image_of, files_in, secrets_in, live_in, pending_in, place_in, tap_in, tag_in}
-use Rattle.image.specs.Answers.{bits_at, booleans, right_length, whole, refused_as, read_in}
+use Rattle.image.specs.Answers.{bits_at, booleans, right_length, read_in}
 use Rattle.image.proofs.Shapes.{FilesShaped, SecretsShaped, LiveShaped, PendingShaped, TapShaped, Shaped, file_widths, secret_widths, live_widths, pending_widths, tap_widths}
 use Rattle.image.proofs.Pieces.{lengths, sum, joined_length, piece, cut_join, bytes-from-length, bytes-from-bytes, bytes-from_one, bytes-from-tab, bytes-from-low}
 
@@ -146,10 +147,10 @@ module _ (t : Tag) (h : Shaped t) where
   first_byte = refl
 
   -- and by name: nothing of it is refused
-  pub image_whole : read_in (image_of t) ≡ whole t
+  pub image_whole : read_in (image_of t) ≡ Ok t
   unfolding read_in right_length
   image_whole =
-      rw (eq-eqb (length (image_of t)) 684 image_length_lem, eq-eqb (byte_at (image_of t) 0) image_version first_byte, image_bits) (ap whole image_read)
+      rw (eq-eqb (length (image_of t)) 684 image_length_lem, eq-eqb (byte_at (image_of t) 0) image_version first_byte, image_bits) (ap (λ x. Ok x) image_read)
 
 -- ---- from bytes to a state and back
 byte_of_flag : (n : ℕ) → n ≤ 1 → flag_byte (flag n) ≡ n
@@ -199,28 +200,22 @@ bits_below s [] e k h = absurd (omega arith)
 bits_below s (i ∷ is) e zero h = leb-true (byte_at s i) 1 (and_left _ _ e)
 bits_below s (i ∷ is) e (suc k) h = bits_below s is (and_right (leb (byte_at s i) 1) _ e) k (omega arith)
 
-abbrev is_whole : Found → Bool
-is_whole Whole = true
-is_whole WrongLength = false
-is_whole WrongVersion = false
-is_whole NotABoolean = false
-
-none_refused : (a b c : Bool) (t : Tag)
-    → (pick a (pick b (pick c (whole t) (refused_as NotABoolean)) (refused_as WrongVersion)) (refused_as WrongLength)).found ≡ Whole
+none_refused : (a b c : Bool) (t u : Tag)
+    → pick a (pick b (pick c (Ok t) (Err NotABoolean)) (Err WrongVersion)) (Err WrongLength) ≡ Ok u
     → and a (and b c) ≡ true
-none_refused true true true t e = refl
-none_refused true true false t e = ap is_whole e
-none_refused true false c t e = ap is_whole e
-none_refused false b c t e = ap is_whole e
+none_refused true true true t u e = refl
+none_refused true true false t u e = ap is_ok e
+none_refused true false c t u e = ap is_ok e
+none_refused false b c t u e = ap is_ok e
 
 low_byte : (s : List ℕ) (i n j : ℕ) → j < n → byte_at s (i + j) ≤ 1 → byte_at (bytes_from s i n) j ≤ 1
 low_byte s i n j h b = subst (λ m. m ≤ 1) (sym (bytes-from_one s i n j h)) b
 
 -- bytes that hold a state are its image
-pub read_image : (s : List ℕ) → AllBytes s → (read_in s).found ≡ Whole → image_of (tag_in s) ≡ s
+pub read_image : (s : List ℕ) (t : Tag) → AllBytes s → read_in s ≡ Ok t → image_of (tag_in s) ≡ s
 unfolding read_in right_length image_of tag_in
-read_image s a e =
-    let w = none_refused (eqb (length s) 684) (eqb (byte_at s 0) image_version) (bits_at s booleans) (tag_in s) e in
+read_image s t a e =
+    let w = none_refused (eqb (length s) 684) (eqb (byte_at s 0) image_version) (bits_at s booleans) (tag_in s) t e in
     let l : length s ≡ 684 = eqb-true (length s) 684 (and_left _ _ w) in
     let w' = and_right (eqb (length s) 684) _ w in
     let v : byte_at s 0 ≡ image_version = eqb-true (byte_at s 0) image_version (and_left _ _ w') in

@@ -8,8 +8,7 @@ use lib.Dec.{leb}
 use borrow.Author.Tests.{le-leb, eq-eqb, ne_eqb}
 use Rattle.state.specs.declared.Tag.{Tag}
 use Rattle.image.specs.Image.{image_of}
-use Rattle.image.specs.Answers.{image_in}
-use Rattle.making.proofs.Laying.{right, wrong, image_laid}
+use Rattle.image.specs.Answers.{right_length, image_in}
 use Rattle.replies.specs.Answer.{Answer}
 use Rattle.tag.specs.declared.Outcome.{Outcome}
 use Rattle.tag.specs.declared.Outcome.TheVariants.{Replied, SmallRoom, WrongRandom, Unsound}
@@ -18,6 +17,19 @@ use Rattle.access.specs.declared.Noted.{Noted}
 use Rattle.tag.specs.Way.{answered, noted}
 use Rattle.tag.specs.Call.{replied, unanswered, outcome_of, by_outcome, noted_by, cost_by, Calls}
 use Rattle.playing.specs.Answers.{call_number, call_image, is_reply, journal_length, journal_of, Answers, state_in, fit, Plays}
+
+right : (s : List ℕ) → length s ≡ 684 → right_length s ≡ true
+unfolding right_length
+right s l = eq-eqb (length s) 684 l
+
+wrong : (s : List ℕ) → (length s ≡ 684 → ⊥) → right_length s ≡ false
+unfolding right_length
+wrong s l = ne_eqb (length s) 684 l
+
+-- an image over bytes of its length
+image_laid : (t : Tag) (s s' : List ℕ) → length s ≡ 684 → s' ≡ image_in t s → s' ≡ image_of t
+unfolding image_in
+image_laid t s s' l q = q ∙ rw (right s l) refl
 
 -- ---- a call
 outcome_is : (t : Tag) (a : Answer) (n : Noted) (o : Outcome) → (by_outcome t a n o).outcome ≡ o

@@ -1,8 +1,10 @@
 -- A call at the C border: the number that each case is answered with, and what image, room and journal hold then.
 use Rattle.std.specs.Prelude.{Bool, true, false, List, ◌∷◌, ◌++◌, ◌≡◌, ℕ, ◌+◌, eqb, leb, length, replicate}
+use Rattle.std.specs.Result.{result_unwrap_or}
 use Rattle.base.specs.Decide.{pick, and}
 use Rattle.base.specs.Bytes.{low}
 use Rattle.state.specs.declared.Tag.{Tag}
+use Rattle.delivery.specs.Fresh.{blank}
 use Rattle.image.specs.Image.{image_of}
 use Rattle.image.specs.Answers.{right_length, read_in}
 use Rattle.making.specs.Making.{wrong_image}
@@ -52,7 +54,7 @@ pub record Answers (t : Tag) (image c random room : List ℕ) (r : ℕ) (image' 
 
 -- the state in an image; bytes of its length that hold none stand for a state of zeros, which is not sound
 abbrev pub state_in : List ℕ → Tag
-state_in image = (read_in image).tag
+state_in image = result_unwrap_or (read_in image) blank
 
 -- a journal of another length; this comes next after the image's
 abbrev pub wrong_journal : ℕ

@@ -2,27 +2,28 @@
 #![tactic(auto)]
 
 ghost use Rattle.std.specs.Prelude.{◌≡◌, length};
+ghost use Rattle.delivery.specs.Fresh.{blank};
 ghost use Rattle.playing.specs.Answers.{journal_of, Answers, Plays};
 
 use access::Noted;
-use state::Tag;
+use state::{Files, Place, Secrets, Tag, Tapping};
 use tag::Outcome;
 
 // What a call notes and what it cost, over the journal.
+#[tactic(auto, unfolding(base::specs::Bytes::low, crate::specs::Answers::journal_of))]
 fn note(n: Noted, cost: usize, journal: &mut [u8])
     requires { length journal.old ≡ 16 }
     ensures { journal.new ≡ journal_of n cost }
 {
     let m = access::marked(n);
-    let low = (cost % 256) as u8;
-    let high = (cost / 256 % 256) as u8;
-    let text = [
+    let [low, high, ..] = cost.to_le_bytes();
+    journal.copy_from_slice(&[
         m.how, m.right, low, high, 0, 0, 0, 0, 0, 0, 0, 0, 0, 0, 0, 0,
-    ];
-    base::put(&text, journal, 0);
+    ]);
 }
 
 // The answer to a command, with the next state laid over the image where there is a reply.
+#[tactic(auto, unfolding(image::specs::Answers::stored_in, image::specs::Answers::right_length))]
 fn answer(
     tag: Tag,
     state: &mut [u8],
@@ -36,18 +37,46 @@ fn answer(
         result state.new room.new journal.new }
 {
     let called = tag::call(tag, command, random, room);
-    let noted = called.noted;
-    note(noted, called.cost, journal);
-    let outcome = called.outcome;
-    match outcome {
+    note(called.noted, called.cost, journal);
+    match called.outcome {
         Outcome::Replied => {
-            let t = called.tag;
-            storing::to_image(t, state);
+            storing::to_image(called.tag, state).unwrap();
             called.length
         }
         Outcome::SmallRoom => 1001,
         Outcome::WrongRandom => 1002,
         Outcome::Unsound => 1003,
+    }
+}
+
+// Every byte and number 0: what bytes that hold no state are judged as. It is not sound.
+#[tactic(auto, unfolding(delivery::specs::Fresh::blank))]
+fn zeroed() -> Tag
+    ensures { result ≡ blank }
+{
+    Tag {
+        uid: [0; 7],
+        files: Files {
+            bytes: [0; 416],
+            rules: [0; 81],
+            lens: [0; 3],
+        },
+        secrets: Secrets {
+            keys: [0; 80],
+            versions: [0; 5],
+        },
+        live: state::no_live(),
+        pending: state::no_pending(),
+        place: Place {
+            application: false,
+            file: 0,
+        },
+        tap: Tapping {
+            on: false,
+            iso: false,
+            counter: 0,
+            padding: [0; 12],
+        },
     }
 }
 
@@ -68,7 +97,6 @@ pub fn play(
     if journal.len() != 16 {
         return 1007;
     }
-    let read = restoring::from_image(state);
-    let t = read.tag;
-    answer(t, state, command, random, room, journal)
+    let tag = restoring::from_image(state).unwrap_or(zeroed());
+    answer(tag, state, command, random, room, journal)
 }
