@@ -3,6 +3,7 @@ use mathlib.Core.Path.{◌≡◌, refl, sym, ap, ap₂, subst, ◌∙◌}
 use mathlib.Core.Bool.{true, false}
 use mathlib.Core.List.{List}
 use Prim.Native.Nat.{ℕ}
+use Rattle.std.specs.Prelude.{Option}
 use lib.ListN.{length}
 use lib.Dec.{leb}
 use borrow.Author.Tests.{le-leb, eq-eqb, ne_eqb}
@@ -13,7 +14,7 @@ use Rattle.replies.specs.Answer.{Answer}
 use Rattle.tag.specs.declared.Outcome.{Outcome}
 use Rattle.tag.specs.declared.Outcome.TheVariants.{Replied, SmallRoom, WrongRandom, Unsound}
 use Rattle.tag.specs.declared.Called.{Called}
-use Rattle.access.specs.declared.Noted.{Noted}
+use Rattle.access.specs.declared.Grant.{Grant}
 use Rattle.tag.specs.Way.{answered, noted}
 use Rattle.tag.specs.Call.{replied, unanswered, outcome_of, by_outcome, noted_by, cost_by, Calls}
 use Rattle.playing.specs.Answers.{call_number, call_image, is_reply, journal_length, journal_of, Answers, state_in, fit, Plays}
@@ -32,32 +33,32 @@ unfolding image_in
 image_laid t s s' l q = q ∙ rw (right s l) refl
 
 -- ---- a call
-outcome_is : (t : Tag) (a : Answer) (n : Noted) (o : Outcome) → (by_outcome t a n o).outcome ≡ o
+outcome_is : (t : Tag) (a : Answer) (n : Option Grant) (o : Outcome) → (by_outcome t a n o).outcome ≡ o
 unfolding replied unanswered
 outcome_is t a n Replied = refl
 outcome_is t a n SmallRoom = refl
 outcome_is t a n WrongRandom = refl
 outcome_is t a n Unsound = refl
 
-noted_is : (t : Tag) (a : Answer) (n : Noted) (o : Outcome) → (by_outcome t a n o).noted ≡ noted_by n o
+noted_is : (t : Tag) (a : Answer) (n : Option Grant) (o : Outcome) → (by_outcome t a n o).noted ≡ noted_by n o
 unfolding replied unanswered
 noted_is t a n Replied = refl
 noted_is t a n SmallRoom = refl
 noted_is t a n WrongRandom = refl
 noted_is t a n Unsound = refl
 
-cost_is : (t : Tag) (a : Answer) (n : Noted) (o : Outcome) → (by_outcome t a n o).cost ≡ cost_by a o
+cost_is : (t : Tag) (a : Answer) (n : Option Grant) (o : Outcome) → (by_outcome t a n o).cost ≡ cost_by a o
 unfolding replied unanswered
 cost_is t a n Replied = refl
 cost_is t a n SmallRoom = refl
 cost_is t a n WrongRandom = refl
 cost_is t a n Unsound = refl
 
-length_is : (a : Answer) (n : Noted) → (replied a n).length ≡ call_number a Replied
+length_is : (a : Answer) (n : Option Grant) → (replied a n).length ≡ call_number a Replied
 unfolding replied
 length_is a n = refl
 
-tag_is : (a : Answer) (n : Noted) (s : List ℕ) → image_of (replied a n).tag ≡ call_image a s Replied
+tag_is : (a : Answer) (n : Option Grant) (s : List ℕ) → image_of (replied a n).tag ≡ call_image a s Replied
 unfolding replied
 tag_is a n s = refl
 

@@ -1,5 +1,5 @@
 -- A call at the C border: the number that each case is answered with, and what image, room and journal hold then.
-use Rattle.std.specs.Prelude.{Bool, true, false, List, ◌∷◌, ◌++◌, ◌≡◌, ℕ, ◌+◌, eqb, leb, length, replicate}
+use Rattle.std.specs.Prelude.{Bool, true, false, List, ◌∷◌, ◌++◌, ◌≡◌, ℕ, ◌+◌, eqb, leb, length, replicate, Option}
 use Rattle.std.specs.Result.{result_unwrap_or}
 use Rattle.base.specs.Decide.{pick, and}
 use Rattle.base.specs.Bytes.{low}
@@ -8,7 +8,7 @@ use Rattle.delivery.specs.Fresh.{blank}
 use Rattle.image.specs.Image.{image_of}
 use Rattle.image.specs.Answers.{right_length, read_in}
 use Rattle.making.specs.Making.{wrong_image}
-use Rattle.access.specs.declared.Noted.{Noted}
+use Rattle.access.specs.declared.Grant.{Grant}
 use Rattle.access.specs.Marks.{marks_of}
 use Rattle.replies.specs.Answer.{Answer}
 use Rattle.tag.specs.declared.Outcome.{Outcome}
@@ -42,7 +42,7 @@ call_image a image Unsound = image
 abbrev pub journal_length : ℕ
 journal_length = 16
 
-unfoldable pub journal_of : Noted → ℕ → List ℕ
+unfoldable pub journal_of : Option Grant → ℕ → List ℕ
 journal_of n cost = (marks_of n).how ∷ (marks_of n).right ∷ low 2 cost ++ replicate 12 0
 
 pub record Answers (t : Tag) (image c random room : List ℕ) (r : ℕ) (image' room' journal' : List ℕ) : Type 0 where

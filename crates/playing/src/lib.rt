@@ -5,17 +5,17 @@ ghost use Rattle.std.specs.Prelude.{◌≡◌, length};
 ghost use Rattle.delivery.specs.Fresh.{blank};
 ghost use Rattle.playing.specs.Answers.{journal_of, Answers, Plays};
 
-use access::Noted;
+use access::Grant;
 use state::{Files, Place, Secrets, Tag, Tapping};
 use tag::Outcome;
 
 // What a call notes and what it cost, over the journal.
 #[tactic(auto, unfolding(base::specs::Bytes::low, crate::specs::Answers::journal_of))]
-fn note(n: Noted, cost: usize, journal: &mut [u8])
+fn note(noted: Option<Grant>, cost: usize, journal: &mut [u8])
     requires { length journal.old ≡ 16 }
-    ensures { journal.new ≡ journal_of n cost }
+    ensures { journal.new ≡ journal_of noted cost }
 {
-    let m = access::marked(n);
+    let m = access::marked(noted);
     let [low, high, ..] = cost.to_le_bytes();
     journal.copy_from_slice(&[
         m.how, m.right, low, high, 0, 0, 0, 0, 0, 0, 0, 0, 0, 0, 0, 0,
