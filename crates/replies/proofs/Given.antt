@@ -28,11 +28,11 @@ pub buffer_given : (s : List ℕ) → length s ≤ 256 → take 256 (take 258 s)
 buffer_given s h = ap (take 256) (take_all 258 s (omega arith)) ∙ take_all 256 s h
 
 -- what is laid into an empty room, at most 256 bytes, is given whole
-given-whole : (s b : List ℕ) → length s ≤ 256 → b ≡ laid s 0 (replicate 258 0) → take (min (length s) 256) b ≡ s
-given-whole s b l e =
+laid_whole : (s b : List ℕ) → length s ≤ 256 → b ≡ laid s 0 (replicate 258 0) → take (min (length s) 256) b ≡ s
+laid_whole s b l e =
     let m : min (length s) 256 ≡ 0 + length s = omega arith in
     ap (λ k. take k b) m ∙ front (more (none (replicate 258 0)) s b (omega arith) e)
 
-pub room-given : (n : ℕ) (t : Tag) (status : ℕ) (e : List ℕ) → length e ≤ 256 → room_given n t status e ≡ given_for n t status e
+pub room_whole : (n : ℕ) (t : Tag) (status : ℕ) (e : List ℕ) → length e ≤ 256 → room_given n t status e ≡ given_for n t status e
 unfolding room_given
-room-given n t status e l = ap (given_for n t status) (given-whole e (laid e 0 (replicate 258 0)) l refl)
+room_whole n t status e l = ap (given_for n t status) (laid_whole e (laid e 0 (replicate 258 0)) l refl)

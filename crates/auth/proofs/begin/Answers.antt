@@ -1,10 +1,10 @@
+-- `auth::begin` meets its contract.
 use mathlib.Core.Path.{◌≡◌, ap}
 use native.Mathlib.Omega.{arith}
 use lib.ListN.{length}
 use Rattle.replies.proofs.Equal.{gives_as}
-use Rattle.replies.proofs.Given.{room-given}
+use Rattle.replies.proofs.Given.{room_whole}
 use Rattle.auth.specs.Parts.{begun}
-use borrow.Author.Rules.{rules}
 use borrow.Author.Rules.{rules}
 use Rattle.auth.proofs.begin.Goals as goal
 
@@ -18,5 +18,5 @@ returns c =
       ← ap (λ x. x.bytes) e.ensures,
       ← ap (λ x. x.cost) e.ensures,
       ← c.no_live.ensures,
-      ← c.talking.ensures,
-    ) (gives_as c.give_text.ensures (room-given e.result.cost c.talking.result 0x91AF e.result.bytes (omega arith)))
+      ← c.talking-begun.ensures,
+    ) (gives_as c.give_text.ensures (room_whole e.result.cost c.talking-begun.result 0x91AF e.result.bytes (omega arith)))
