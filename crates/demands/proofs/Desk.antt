@@ -1,6 +1,6 @@
 -- At the binder's desk: a tag opens a session with key 0 as delivered, changes its settings under it, and changes key 0. AES is not computed here: what
 -- both ends of an authentication and of a message know of each other goes by their laws.
-use Rattle.std.specs.Prelude.{Some}
+use Rattle.std.specs.Prelude.{Ok, Some}
 use mathlib.Core.Path.{◌≡◌, refl, sym, subst, ap, ◌∙◌}
 use mathlib.Core.Bool.{true, false}
 use mathlib.Core.List.{List, [], ◌∷◌, ◌++◌}
@@ -18,7 +18,6 @@ use Rattle.inverse.proofs.MacBlocks.{cmac_block}
 use Rattle.messaging.specs.declared.Mode.TheVariants.{Full}
 use Rattle.opening.specs.Command.{sent_command}
 use Rattle.session_keys.specs.Keys.{enc_key, mac_key}
-use Rattle.authentication.specs.declared.Proof.TheVariants.{Right}
 use Rattle.authentication.specs.declared.PartTwo.{PartTwo}
 use Rattle.authentication.specs.Authentication.{challenge, part_two}
 use Rattle.both_ends.proofs.Authenticating.{challenge-length, part_two_right}
@@ -115,7 +114,7 @@ module _ (t : Tag) (d : AtDesk t) where
 
   -- part two, by what it checks
   abbrev proven : List ℕ → PartTwo → Answer
-  proven kx p = costing p.cost (by_proof half kx p.a zeros20 p.proof)
+  proven kx p = costing p.cost (by_proof half kx zeros20 p.a)
 
   part_two_lem : answered half proves.command zeros20 ≡ proven zeros16 (part_two zeros16 zeros16 (challenge zeros16 zeros16 zeros16))
   unfolding calling commanded part_two_answer order_status front_status one_of talking pending_first zeros20
@@ -127,10 +126,10 @@ module _ (t : Tag) (d : AtDesk t) where
       ∙ ap (λ kx. proven kx (part_two kx zeros16 x)) d.key
 
   part_two_proven : answered half proves.command zeros20
-      ≡ proven zeros16 (record { proof = Right; a = zeros16; cost = (part_two zeros16 zeros16 (challenge zeros16 zeros16 zeros16)).cost })
+      ≡ proven zeros16 (record { a = Ok zeros16; cost = (part_two zeros16 zeros16 (challenge zeros16 zeros16 zeros16)).cost })
   part_two_proven =
       let r = part_two_right zeros16 zeros16 zeros16 zeros_block zeros_block zeros_block in
-      part_two_lem ∙ ap (λ p. proven zeros16 p) (r ∙ ap (λ c. record { proof = Right; a = zeros16; cost = c }) (sym (ap (λ (p : PartTwo). p.cost) r)))
+      part_two_lem ∙ ap (λ p. proven zeros16 p) (r ∙ ap (λ c. record { a = Ok zeros16; cost = c }) (sym (ap (λ (p : PartTwo). p.cost) r)))
 
   second-step : step half proves ≡ talking t desk_live no_pending
   unfolding calling entered entered_first session_from talking quieted pending_first zeros20 desk_live

@@ -1,5 +1,5 @@
 -- Every answer is of one of a few kinds: what holds of each kind holds of every answer.
-use Rattle.std.specs.Prelude.{Err, None, Ok, Option, Some}
+use Rattle.std.specs.Prelude.{Err, None, Ok, Option, Some, Result}
 use Rattle.settings.specs.declared.Fault.TheVariants.{String, File}
 use mathlib.Core.Path.{◌≡◌, refl, sym, subst, ap, ◌∙◌}
 use mathlib.Core.Bool.{Bool, true, false, not}
@@ -13,8 +13,8 @@ use Rattle.base.specs.Decide.{pick, or, one_of}
 use Rattle.base.specs.Bytes.{byte_at, same}
 use Rattle.messaging.specs.declared.Mode.{Mode}
 use Rattle.messaging.specs.declared.Mode.TheVariants.{Full}
-use Rattle.authentication.specs.declared.Proof.{Proof}
-use Rattle.authentication.specs.declared.Proof.TheVariants.{Right, NotThirtyTwo, WrongRndB}
+use Rattle.authentication.specs.declared.Wrong.{Wrong}
+use Rattle.authentication.specs.declared.Wrong.TheVariants.{NotThirtyTwo, WrongRndB}
 use Rattle.opening.specs.declared.NotOpened.TheVariants.{WrongLength, WrongMac, WrongPadding}
 use Rattle.authentication.specs.Authentication.{part_two, proof_status}
 use Rattle.messaging.specs.Protect.{Opening, plain, wrong_length, wrong_mac, wrong_padding}
@@ -107,17 +107,17 @@ module _ (t : Tag) (c random : List ℕ) (P : Answer → Type 0) (kind : Kinds t
       kind.begins (pending_next t.live x random) f.key (or_right t.place.application f.there))
       (λ e. kind.refuses (next_status x t.live.on))
 
-  proof_kind : t.pending.on ≡ true → (kx a : List ℕ) (r : Proof) → P (by_proof t kx a random r)
-  proof_kind p kx a Right = kind.enters p kx a
-  proof_kind p kx a NotThirtyTwo = kind.refuses (proof_status NotThirtyTwo)
-  proof_kind p kx a WrongRndB = kind.refuses (proof_status WrongRndB)
+  proof_kind : t.pending.on ≡ true → (kx : List ℕ) (r : Result (List ℕ) Wrong) → P (by_proof t kx random r)
+  proof_kind p kx (Ok a) = kind.enters p kx a
+  proof_kind p kx (Err NotThirtyTwo) = kind.refuses (proof_status (Err NotThirtyTwo))
+  proof_kind p kx (Err WrongRndB) = kind.refuses (proof_status (Err WrongRndB))
 
   second_kind : (x : List ℕ) → t.pending.on ≡ true → P (part_two_answer t x random)
   unfolding part_two_answer
   second_kind x p =
       let kx = key_in t.secrets.keys t.pending.key in
       let two = part_two kx t.pending.rnd_b x in
-      kind.costs two.cost (by_proof t kx two.a random two.proof) (proof_kind p kx two.a two.proof)
+      kind.costs two.cost (by_proof t kx random two.a) (proof_kind p kx two.a)
 
   id_kind : (id : ℕ) → P (of_id t id)
   unfolding of_id
