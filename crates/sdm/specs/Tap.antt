@@ -1,13 +1,13 @@
 -- 9.3.4, 9.3.6, 9.3.8 and 9.3.9: PICCData, and the keys and the vector of a tap.
-use Rattle.std.specs.Prelude.{Bool, List, [], ◌∷◌, ◌++◌, ◌≡◌, ℕ, ◌+◌, ◌-◌, ◌≤◌, length, take, replicate}
+use Rattle.std.specs.Prelude.{Bool, List, [], ◌∷◌, ◌++◌, ◌≡◌, ℕ, ◌+◌, ◌-◌, ◌≤◌, length, take, replicate, Result, Ok, Err}
 use Rattle.base.specs.Decide.{pick}
 use Rattle.base.specs.Bytes.{low}
 use Rattle.aes.specs.Block.{cipher, block_cost}
-use Rattle.cbc.specs.Cbc.{cbc_out, whole, cbc_cost}
+use Rattle.cbc.specs.declared.Ragged.{Ragged}
+use Rattle.cbc.specs.Cbc.{cbc_out, whole, cbc_cost, chained_cost}
 use Rattle.cmac.specs.Cmac.{cmac, cmac_cost}
 use Rattle.key_expansion.specs.Keys.{key_expansion}
 use Rattle.sdm.specs.declared.Tap.{Tap}
-use Rattle.sdm.specs.declared.Hidden.{Hidden}
 
 -- UID and counter as far as they are mirrored, the counter low byte first
 unfoldable pub mirrored : List ℕ → ℕ → Bool → Bool → List ℕ
@@ -69,7 +69,7 @@ unfoldable pub hidden_cost : ℕ → ℕ
 hidden_cost n = tap_iv_cost + cbc_cost n
 
 -- SDMENCFileData over whole blocks; another length is refused before any block, the text as it was
-pub record Hides (key : List ℕ) (counter : ℕ) (old : List ℕ) (r : Hidden) (new : List ℕ) : Type 0 where
-  pub answer : r.whole ≡ whole old
-  pub cost : r.cost ≡ pick (whole old) (hidden_cost (length old)) 0
+pub record Hides (key : List ℕ) (counter : ℕ) (old : List ℕ) (r : Result ℕ Ragged) (new : List ℕ) : Type 0 where
+  pub answer : r ≡ pick (whole old) (Ok (hidden_cost (length old))) (Err record {})
+  pub cost : chained_cost r ≡ pick (whole old) (hidden_cost (length old)) 0
   pub text : new ≡ pick (whole old) (cbc_out (key_expansion key) (tap_iv key counter) old) old

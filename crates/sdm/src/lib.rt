@@ -6,17 +6,10 @@ mod codes;
 pub use codes::{picc_data, tap_enc_key, tap_encrypt, tap_iv, tap_mac, tap_mac_key};
 
 // A tap: its UID and its counter, and whether they are mirrored.
-#[derive(Clone, Copy)]
+#[derive(Clone, Copy, Debug, PartialEq, Eq)]
 pub struct Tap {
     pub uid: [u8; 7],
     pub counter: u32,
     pub names: bool,
     pub counts: bool,
-}
-
-// Whether the text of ENC was whole blocks, and how many were computed.
-#[derive(Clone, Copy)]
-pub struct Hidden {
-    pub whole: bool,
-    pub cost: usize,
 }

@@ -5,7 +5,7 @@ ghost use Rattle.std.specs.Prelude.{◌≡◌, ◌∷◌};
 ghost use Rattle.session_keys.specs.Keys.{context, session_keys};
 
 // The keys of a session, and how many blocks were computed for them.
-#[derive(Clone, Copy)]
+#[derive(Clone, Copy, Debug, PartialEq, Eq)]
 pub struct Keys {
     pub enc: [u8; 16],
     pub mac: [u8; 16],
@@ -16,7 +16,7 @@ pub struct Keys {
 fn vector(l: u8, m: u8, a: [u8; 16], b: [u8; 16]) -> [u8; 32]
     ensures { result ≡ l ∷ m ∷ context a b }
 {
-    let mut v = [0u8; 32];
+    let mut v = [0; 32];
     let x = [
         a[2] ^ b[0],
         a[3] ^ b[1],

@@ -15,7 +15,7 @@ returns c =
     let m = c.mirror_of-m.ensures in
     let n = c.mirror_of-m.result.count in
     c.encrypt.ensures
-    ∙ ap₂ (λ w s. counted (cipher w s) block_cost) c.expand-w.ensures
+    ∙ ap₂ (λ w s. counted (cipher w s) block_cost) c.expand.ensures
     (c.picc_text-text.ensures
     ∙ ap (λ p. c.picc_tag-tag.result ∷ take n c.mirror_of-m.result.bytes ++ take (15 - n) p) c.with_zeros.ensures
     ∙ ap₂ (λ (t : ℕ) (p : List ℕ). t ∷ p ++ take (15 - n) (a.padding ++ replicate 3 0)) c.picc_tag-tag.ensures (mirrors_front m)

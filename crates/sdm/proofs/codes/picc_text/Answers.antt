@@ -6,19 +6,9 @@ use lib.ListN.{length, take}
 use native.Mathlib.Omega.{arith}
 use Prim.Native.Nat.{◌+◌, ◌-◌, ◌≤◌}
 use mathlib.Core.List.{[], ◌∷◌}
-use mathlib.Core.Path.{◌≡◌, sym}
+use mathlib.Core.Path.{◌≡◌}
 use borrow.Author.Rules.{rules}
 use Rattle.sdm.proofs.codes.picc_text.Goals as goal
-
-pub slice_bounds-put-end-3 : goal.slice_bounds-put-end-3
-slice_bounds-put-end-3 c =
-    let l : length c.args.b ≡ 10 = search rules in
-    sym (length-take-le c.args.n c.args.b (omega arith))
-
-pub slice_bounds-put-end-5 : goal.slice_bounds-put-end-5
-slice_bounds-put-end-5 c =
-    let l : length c.args.padding ≡ 15 = search rules in
-    sym (length-take-le (15 - c.args.n) c.args.padding (omega arith))
 
 pub returns : goal.returns
 returns c =

@@ -10,4 +10,4 @@ use Rattle.sdm.proofs.codes.tap_iv.Goals as goal
 pub returns : goal.returns
 unfolding tap_iv
 returns c = c.tap_vector.ensures
-    ∙ ap (λ w. counted (cipher w (low 3 c.args.counter ++ replicate 13 0)) block_cost) c.expand-w.ensures
+    ∙ ap (λ w. counted (cipher w (low 3 c.args.counter ++ replicate 13 0)) block_cost) c.expand.ensures

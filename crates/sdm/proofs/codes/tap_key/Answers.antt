@@ -13,4 +13,4 @@ returns c =
     let v = c.vector-v.result in
     let l : length v ≡ 16 = search rules in
     c.cmac_of.ensures
-    ∙ ap₂ counted (rw (c.vector-v.ensures, c.mirror_of-p.ensures.bytes, c.expand-w.ensures) refl) (ap cmac_cost l)
+    ∙ ap₂ counted (rw (c.vector-v.ensures, c.mirror_of.ensures.bytes, c.expand.ensures) refl) (ap cmac_cost l)

@@ -9,4 +9,4 @@ pub returns : goal.returns
 unfolding mac
 returns c =
     let x = c.args.text.now in
-    c.mac_of.ensures ∙ ap (λ w. counted (even_places (cmac w x)) (cmac_cost (length x))) c.expand-w.ensures
+    c.mac_of.ensures ∙ ap (λ w. counted (even_places (cmac w x)) (cmac_cost (length x))) c.expand.ensures
