@@ -22,7 +22,6 @@ use Rattle.opening.specs.Command.{Opens, OpensInto}
 use Rattle.padding.specs.Padding.{Pads}
 use Rattle.messaging.specs.Protect.{Opening}
 use Rattle.closing.specs.Reply.{Seals, Closes}
-use Rattle.sdm.specs.declared.Hidden.{Hidden}
 use Rattle.sdm.specs.Tap.{Mirrors, Hides}
 use Rattle.state.specs.declared.Tag.{Tag}
 use Rattle.delivery.specs.declared.Birth.{Birth}
@@ -60,9 +59,6 @@ opened_once r q e c = let made : Opened → ℕ → OpenedFor = λ b n. record {
 closed_once : (r q : ClosedFor) → r.closed ≡ q.closed → r.cost ≡ q.cost → r ≡ q
 closed_once r q e c = let made : Closed → ℕ → ClosedFor = λ b n. record { closed = b; cost = n } in ap₂ made e c
 
-hidden_once : (r q : Hidden) → r.whole ≡ q.whole → r.cost ≡ q.cost → r ≡ q
-hidden_once r q e c = let made : Bool → ℕ → Hidden = λ b n. record { whole = b; cost = n } in ap₂ made e c
-
 -- ---- the records
 pub chains_once : {f : List ℕ → List ℕ} {old : List ℕ} → DeterminedIn (λ (r : Result ℕ Ragged) (new : List ℕ). Chains f old r new)
 chains_once r q new other p h = twice r q new other (p.told, p.left) (h.told, h.left)
@@ -79,9 +75,8 @@ pub closes_once : {s : Session} {m : Mode} {code n : ℕ} {old : List ℕ}
 closes_once r q new other p h =
     (closed_once r q (p.answer ∙ sym h.answer) (p.cost ∙ sym h.cost), once new other p.room h.room)
 
-pub hides_once : {key : List ℕ} {counter : ℕ} {old : List ℕ} → DeterminedIn (λ (r : Hidden) (new : List ℕ). Hides key counter old r new)
-hides_once r q new other p h =
-    (hidden_once r q (p.answer ∙ sym h.answer) (p.cost ∙ sym h.cost), once new other p.text h.text)
+pub hides_once : {key : List ℕ} {counter : ℕ} {old : List ℕ} → DeterminedIn (λ (r : Result ℕ Ragged) (new : List ℕ). Hides key counter old r new)
+hides_once r q new other p h = twice r q new other (p.answer, p.text) (h.answer, h.text)
 
 pub calls_once : {t : Tag} {c random old : List ℕ} → DeterminedIn (λ (r : Called) (new : List ℕ). Calls t c random old r new)
 calls_once r q new other p h = twice r q new other (p.told, p.left) (h.told, h.left)

@@ -41,7 +41,6 @@ use Rattle.writing.specs.Answers.{writing_number, written_as, written_number, wr
 use Rattle.writing.specs.declared.Written.{Written}
 use Rattle.crc.specs.Crc.{crc}
 use Rattle.sdm.specs.Tap.{Hides, picc_cost, picc_data, tap_enc_key, tap_iv, tap_iv_cost, tap_key_cost, tap_mac_key}
-use Rattle.sdm.specs.declared.Hidden.{Hidden}
 use Rattle.sdm.specs.declared.Tap.{Tap}
 use Rattle.authentication.specs.Authentication.{enciphered, first_reply, first_reply_cost, next_reply, next_reply_cost, part_one_cost, part_two}
 use Rattle.authentication.specs.declared.PartTwo.{PartTwo}
@@ -258,7 +257,7 @@ crc_of_determined s = once
 pub picc_data_determined : (key : List ℕ) (t : Tap) (padding : List ℕ) → Determined (λ (r : Counted 16). r ≡ counted (picc_data key t padding) picc_cost)
 picc_data_determined key t padding = once
 
-pub tap_encrypt_determined : (key : List ℕ) (counter : ℕ) (text : List ℕ) → DeterminedIn (λ (r : Hidden) (new : List ℕ). Hides key counter text r new)
+pub tap_encrypt_determined : (key : List ℕ) (counter : ℕ) (text : List ℕ) → DeterminedIn (λ (r : Result ℕ Ragged) (new : List ℕ). Hides key counter text r new)
 tap_encrypt_determined key counter text = hides_once
 
 pub tap_iv_determined : (key : List ℕ) (counter : ℕ) → Determined (λ (r : Counted 16). r ≡ counted (tap_iv key counter) tap_iv_cost)

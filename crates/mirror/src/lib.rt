@@ -16,7 +16,7 @@ use sdm::Tap;
 use spans::{Reading, Span};
 
 // What a tap mirrors, with which keys and which padding.
-#[derive(Clone, Copy)]
+#[derive(Clone, Copy, Debug, PartialEq, Eq)]
 pub struct Mirror {
     pub tap: Tap,
     pub meta_key: [u8; 16],
@@ -40,14 +40,12 @@ fn lay_hex(file: [u8; 256], s: Span, text: &[u8]) -> [u8; 256]
 }
 
 // A counter's three bytes, high byte first.
+#[tactic(auto, unfolding(crate::specs::Mirrors::high_first))]
 fn high_first(counter: u32) -> [u8; 3]
     ensures { result ≡ high_first counter }
 {
-    [
-        (counter / 65536 % 256) as u8,
-        (counter / 256 % 256) as u8,
-        (counter % 256) as u8,
-    ]
+    let [_, a, b, c] = counter.to_be_bytes();
+    [a, b, c]
 }
 
 // UID, counter and PICCData.
@@ -55,17 +53,12 @@ fn lay_picc(file: [u8; 256], r: Reading, m: Mirror) -> Counted<256>
     requires { SpansFit r }
     ensures { result ≡ counted (with_picc r m (with_counter r m (with_uid r m file))) (picc_mirror_cost r) }
 {
-    let uid = m.tap.uid;
-    let f = lay_hex(file, r.uid, &uid);
-    let c = high_first(m.tap.counter);
-    let g = lay_hex(f, r.counter, &c);
+    let f = lay_hex(file, r.uid, &m.tap.uid);
+    let g = lay_hex(f, r.counter, &high_first(m.tap.counter));
     if r.picc.present {
-        let key = m.meta_key;
-        let padding = m.padding;
-        let p = sdm::picc_data(key, m.tap, padding);
-        let bytes = p.bytes;
+        let p = sdm::picc_data(m.meta_key, m.tap, m.padding);
         return Counted {
-            bytes: lay_hex(g, r.picc, &bytes),
+            bytes: lay_hex(g, r.picc, &p.bytes),
             cost: p.cost,
         };
     }
@@ -84,10 +77,10 @@ fn lay_hidden(
     requires text_bound { s.start + length text.old * 2 ≤ 256 }
     ensures { result ≡ counted (mirror_at s (cbc_out (key_expansion key) (tap_iv key counter) text.old) file) (hidden_cost (length text.old)) }
 {
-    let h = sdm::tap_encrypt(key, counter, text);
+    let cost = sdm::tap_encrypt(key, counter, text).unwrap();
     Counted {
         bytes: lay_hex(file, s, text),
-        cost: h.cost,
+        cost,
     }
 }
 
@@ -108,13 +101,11 @@ fn lay_enc(stored: [u8; 256], file: [u8; 256], r: Reading, m: Mirror) -> Counted
     ensures { result ≡ counted (with_enc r m stored file) (enc_mirror_cost r) }
 {
     if r.enc.present {
-        let key = m.file_key;
-        let k = sdm::tap_enc_key(key, m.tap);
-        let enc = k.bytes;
-        let h = hide(stored, file, r.enc, enc, m.tap.counter);
-        let f = h.bytes;
+        let k = sdm::tap_enc_key(m.file_key, m.tap);
+        let h = hide(stored, file, r.enc, k.bytes, m.tap.counter);
+        let bytes = h.bytes;
         return Counted {
-            bytes: f,
+            bytes,
             cost: k.cost + h.cost,
         };
     }
@@ -141,14 +132,11 @@ fn lay_mac(file: [u8; 256], r: Reading, m: Mirror) -> Counted<256>
     ensures { result ≡ counted (with_mac r m file) (mac_mirror_cost r) }
 {
     if r.mac.present {
-        let key = m.file_key;
-        let k = sdm::tap_mac_key(key, m.tap);
-        let mac = k.bytes;
-        let input = r.settings.places.input;
-        let t = mac_between(file, input as usize, r.mac.start as usize, mac);
-        let bytes = t.bytes;
+        let k = sdm::tap_mac_key(m.file_key, m.tap);
+        let input = r.settings.places.input as usize;
+        let t = mac_between(file, input, r.mac.start as usize, k.bytes);
         return Counted {
-            bytes: lay_hex(file, r.mac, &bytes),
+            bytes: lay_hex(file, r.mac, &t.bytes),
             cost: k.cost + t.cost,
         };
     }
@@ -164,13 +152,11 @@ pub fn lay(file: [u8; 256], r: Reading, m: Mirror) -> Counted<256>
     ensures { result ≡ counted (dynamic_data file r m) (dynamic_cost r) }
 {
     let p = lay_picc(file, r, m);
-    let f = p.bytes;
-    let e = lay_enc(file, f, r, m);
-    let g = e.bytes;
-    let c = lay_mac(g, r, m);
-    let h = c.bytes;
+    let e = lay_enc(file, p.bytes, r, m);
+    let c = lay_mac(e.bytes, r, m);
+    let bytes = c.bytes;
     Counted {
-        bytes: h,
+        bytes,
         cost: p.cost + e.cost + c.cost,
     }
 }

@@ -17,7 +17,7 @@ lay_hex-f-requires c =
 
 pub lay_hex-g-requires : goal.lay_hex-g-requires
 lay_hex-g-requires c =
-    let l : length c.high_first-c.result ≡ 3 = search rules in
+    let l : length c.high_first.result ≡ 3 = search rules in
     λ h. let i = counter-inside c.args.r c.requires h in omega arith
 
 pub lay_hex-requires : goal.lay_hex-requires
@@ -32,7 +32,7 @@ returns-then-r c =
     let p = c.picc_data-p.ensures in
     ap₂ counted
     (c.lay_hex.ensures ∙ ap₂ (mirror_at a.r.picc) (ap (λ x. x.bytes) p)
-    (c.lay_hex-g.ensures ∙ ap₂ (mirror_at a.r.counter) c.high_first-c.ensures c.lay_hex-f.ensures))
+    (c.lay_hex-g.ensures ∙ ap₂ (mirror_at a.r.counter) c.high_first.ensures c.lay_hex-f.ensures))
     (ap (λ x. x.cost) p ∙ sym (ap (λ t. pick t picc_cost 0) c.if-r.true))
 
 pub returns : goal.returns
@@ -41,6 +41,6 @@ returns c =
     let a = c.args in
     ap₂ counted
     (c.lay_hex-g.ensures
-    ∙ ap₂ (mirror_at a.r.counter) c.high_first-c.ensures c.lay_hex-f.ensures
+    ∙ ap₂ (mirror_at a.r.counter) c.high_first.ensures c.lay_hex-f.ensures
     ∙ sym (mirror_off a.r.picc _ _ c.if-r.false))
     (sym (ap (λ t. pick t picc_cost 0) c.if-r.false))
