@@ -1,9 +1,9 @@
 -- 01, "Authentication and messages (9.1, 10.4)": part two, its reply, and the session.
-use Rattle.std.specs.Prelude.{true, List, ℕ, ◌+◌, drop}
+use Rattle.std.specs.Prelude.{true, List, Result, Ok, Err, ℕ, ◌+◌, drop}
 use Rattle.base.specs.Decide.{pick}
 use Rattle.base.specs.Status.{operation_ok}
-use Rattle.authentication.specs.declared.Proof.{Proof}
-use Rattle.authentication.specs.declared.Proof.TheVariants.{Right, NotThirtyTwo, WrongRndB}
+use Rattle.authentication.specs.declared.Wrong.{Wrong}
+use Rattle.authentication.specs.declared.Wrong.TheVariants.{NotThirtyTwo, WrongRndB}
 use Rattle.authentication.specs.Authentication.{part_two, proof_status, first_reply, first_reply_cost, next_reply, next_reply_cost}
 use Rattle.session_keys.specs.Keys.{enc_key, mac_key, session_keys_cost}
 use Rattle.state.specs.declared.Live.{Live}
@@ -35,14 +35,14 @@ unfoldable pub entered : Tag → List ℕ → List ℕ → List ℕ → Answer
 entered t kx a random = pick t.pending.first (entered_first t kx a random) (entered_next t kx a)
 
 -- part two: length not 32 917E; wrong RndB' 91AE
-abbrev pub by_proof : Tag → List ℕ → List ℕ → List ℕ → Proof → Answer
-by_proof t kx a random Right = entered t kx a random
-by_proof t kx a random NotThirtyTwo = refusal t (proof_status NotThirtyTwo)
-by_proof t kx a random WrongRndB = refusal t (proof_status WrongRndB)
+abbrev pub by_proof : Tag → List ℕ → List ℕ → Result (List ℕ) Wrong → Answer
+by_proof t kx random (Ok a) = entered t kx a random
+by_proof t kx random (Err NotThirtyTwo) = refusal t (proof_status (Err NotThirtyTwo))
+by_proof t kx random (Err WrongRndB) = refusal t (proof_status (Err WrongRndB))
 
 -- the check costs as much where RndB' is wrong
 unfoldable pub part_two_answer : Tag → List ℕ → List ℕ → Answer
 part_two_answer t x random =
     let kx = key_in t.secrets.keys t.pending.key in
     let p = part_two kx t.pending.rnd_b x in
-    costing p.cost (by_proof t kx p.a random p.proof)
+    costing p.cost (by_proof t kx random p.a)

@@ -6,17 +6,18 @@ ghost use Rattle.replies.specs.Answer.{Gives};
 ghost use Rattle.part_two.specs.PartTwo.{session_from, entered_first, entered_next, entered, by_proof, part_two_answer};
 ghost use Rattle.session_keys.specs.Keys.{session_keys_cost};
 
-use authentication::Proof;
+use authentication::Wrong;
 use replies::Done;
 use state::{Live, Pending, Tag};
+use statuses::Status;
 
 // TI: bytes 16 to 19.
 fn ti_of(random: [u8; 20]) -> [u8; 4]
     ensures { result ≡ drop 16 random }
 {
-    let mut r = [0u8; 4];
-    base::put(&random[16..20], &mut r, 0);
-    r
+    let mut ti = [0; 4];
+    ti.copy_from_slice(&random[16..]);
+    ti
 }
 
 // A session, and how many blocks were computed for its keys.
@@ -27,14 +28,14 @@ struct Started {
 }
 
 // The session that part two opens.
+#[tactic(auto, unfolding(crate::specs::PartTwo::session_from, session_keys::specs::Keys::session_keys))]
 fn session(p: Pending, kx: [u8; 16], a: [u8; 16], ti: [u8; 4], counter: u16) -> Started
     ensures live { result.live ≡ session_from p kx a ti counter }
     ensures cost { result.cost ≡ session_keys_cost }
 {
-    let b = p.rnd_b;
-    let k = session_keys::session_keys(kx, a, b);
-    let enc = k.enc;
-    let mac = k.mac;
+    let keys = session_keys::session_keys(kx, a, p.rnd_b);
+    let enc = keys.enc;
+    let mac = keys.mac;
     Started {
         live: Live {
             on: true,
@@ -44,7 +45,7 @@ fn session(p: Pending, kx: [u8; 16], a: [u8; 16], ti: [u8; 4], counter: u16) -> 
             ti,
             counter,
         },
-        cost: k.cost,
+        cost: keys.cost,
     }
 }
 
@@ -52,14 +53,11 @@ fn session(p: Pending, kx: [u8; 16], a: [u8; 16], ti: [u8; 4], counter: u16) -> 
 fn enter_first(tag: Tag, kx: [u8; 16], a: [u8; 16], random: [u8; 20]) -> Done
     ensures { Gives (entered_first tag kx a random) result }
 {
-    let p = tag.pending;
-    let cap = p.cap;
     let ti = ti_of(random);
-    let e = authentication::first_reply(kx, ti, a, cap);
-    let s = session(p, kx, a, ti, 0);
-    let text = e.bytes;
-    let t = state::talking(tag, s.live, state::no_pending());
-    replies::give_text(t, 0x9100, &text, s.cost + e.cost)
+    let e = authentication::first_reply(kx, ti, a, tag.pending.cap);
+    let s = session(tag.pending, kx, a, ti, 0);
+    let next = state::talking(tag, s.live, state::no_pending());
+    replies::give_text(next, Status::OperationOk, &e.bytes, s.cost + e.cost)
 }
 
 // Part two of 77 accepted: RndA'; CmdCtr is kept.
@@ -67,16 +65,15 @@ fn enter_next(tag: Tag, kx: [u8; 16], a: [u8; 16]) -> Done
     ensures { Gives (entered_next tag kx a) result }
 {
     let p = tag.pending;
-    let ti = p.ti;
     let e = authentication::next_reply(kx, a);
-    let s = session(p, kx, a, ti, p.counter);
-    let text = e.bytes;
-    let t = state::talking(tag, s.live, state::no_pending());
-    replies::give_text(t, 0x9100, &text, s.cost + e.cost)
+    let s = session(p, kx, a, p.ti, p.counter);
+    let next = state::talking(tag, s.live, state::no_pending());
+    replies::give_text(next, Status::OperationOk, &e.bytes, s.cost + e.cost)
 }
 
 // Part two with the right RndB'.
-fn enter_right(tag: Tag, kx: [u8; 16], a: [u8; 16], random: [u8; 20]) -> Done
+#[tactic(auto, unfolding(crate::specs::PartTwo::entered))]
+fn enter(tag: Tag, kx: [u8; 16], a: [u8; 16], random: [u8; 20]) -> Done
     ensures { Gives (entered tag kx a random) result }
 {
     if tag.pending.first {
@@ -85,14 +82,15 @@ fn enter_right(tag: Tag, kx: [u8; 16], a: [u8; 16], random: [u8; 20]) -> Done
     enter_next(tag, kx, a)
 }
 
-// Part two behind its check, which gave RndA.
-fn by_proof(proof: Proof, tag: Tag, kx: [u8; 16], a: [u8; 16], random: [u8; 20]) -> Done
-    ensures { Gives (by_proof tag kx a random proof) result }
+// Part two behind its check, which gave RndA or why not.
+#[tactic(auto, unfolding(authentication::specs::Authentication::proof_status))]
+fn by_proof(proof: Result<[u8; 16], Wrong>, tag: Tag, kx: [u8; 16], random: [u8; 20]) -> Done
+    ensures { Gives (by_proof tag kx random proof) result }
 {
     match proof {
-        Proof::NotThirtyTwo => replies::refuse(tag, 0x917E),
-        Proof::WrongRndB => replies::refuse(tag, 0x91AE),
-        Proof::Right => enter_right(tag, kx, a, random),
+        Ok(a) => enter(tag, kx, a, random),
+        Err(Wrong::NotThirtyTwo) => replies::refuse(tag, Status::LengthError),
+        Err(Wrong::WrongRndB) => replies::refuse(tag, Status::AuthenticationError),
     }
 }
 
@@ -100,14 +98,11 @@ fn by_proof(proof: Proof, tag: Tag, kx: [u8; 16], a: [u8; 16], random: [u8; 20])
 pub fn second(tag: Tag, x: &[u8], random: [u8; 20]) -> Done
     ensures { Gives (part_two_answer tag x.now random) result }
 {
-    let p = tag.pending;
-    let keys = tag.secrets.keys;
-    let kx = state::key_of(keys, p.key);
-    let b = p.rnd_b;
-    let r = authentication::check_part_two(kx, b, x);
-    let a = r.a;
-    let proof = r.proof;
-    let mut d = by_proof(proof, tag, kx, a, random);
-    d.cost = r.cost + d.cost;
-    d
+    let kx = state::key_of(tag.secrets.keys, tag.pending.key);
+    let checked = authentication::check_part_two(kx, tag.pending.rnd_b, x);
+    let done = by_proof(checked.a, tag, kx, random);
+    Done {
+        cost: checked.cost + done.cost,
+        ..done
+    }
 }
