@@ -48,11 +48,6 @@ pub checked-mac : (s : Session) (cmd : ℕ) (x : List ℕ) (h : ℕ) (t : Bool) 
 unfolding checked mac_right content
 checked-mac s cmd x h t e = rw e refl
 
--- in MAC, whether there is a data part is a question of the length alone
-pub mac_any : (s : Session) (cmd : ℕ) (x : List ℕ) (h : ℕ) (t u : Bool) → checked Mac s cmd x h t ≡ checked Mac s cmd x h u
-unfolding checked content
-mac_any s cmd x h t u = refl
-
 pub checked_full : (s : Session) (cmd : ℕ) (x : List ℕ) (h : ℕ) (t : Bool) → tag_right s cmd x ≡ true
     → checked Full s cmd x h t ≡ content Full s (command_iv s) t (drop h (take (length x - 8) x))
 unfolding checked mac_right
@@ -71,10 +66,6 @@ pub cost-mac : (s : Session) (cmd : ℕ) (x : List ℕ) (h : ℕ) (t b : Bool) �
 unfolding checked_cost mac_right part_cost signed_cost
 cost-mac s cmd x h t true e = rw e (omega arith)
 cost-mac s cmd x h t false e = rw e (omega arith)
-
-pub mac_any_cost : (s : Session) (cmd : ℕ) (x : List ℕ) (h : ℕ) (t u : Bool) → checked_cost Mac s cmd x h t ≡ checked_cost Mac s cmd x h u
-unfolding checked_cost part_cost
-mac_any_cost s cmd x h t u = refl
 
 pub cost_full : (s : Session) (cmd : ℕ) (x : List ℕ) (h : ℕ) (t : Bool) → tag_right s cmd x ≡ true
     → message_mac_cost (length x - 8) + part_cost Full t (length x - 8 - h) ≡ checked_cost Full s cmd x h t
@@ -97,6 +88,31 @@ cost-plain s cmd x h t = refl
 pub content_none : (s : Session) (v p : List ℕ) → content Full s v false p ≡ plain p
 unfolding content
 content_none s v p = refl
+
+-- ---- in MAC and in Full alike: a wrong MAC, and a part that is not encrypted
+pub signed_wrong : (s : Session) (m : Mode) (cmd : ℕ) (x : List ℕ) (h : ℕ) (t : Bool) → mac_length m ≡ 8 → tag_right s cmd x ≡ false
+    → checked m s cmd x h t ≡ wrong_mac
+signed_wrong s Plain cmd x h t l e = absurd (omega arith)
+signed_wrong s Mac cmd x h t l e = mac_wrong s cmd x h t e
+signed_wrong s Full cmd x h t l e = full_wrong s cmd x h t e
+
+pub signed_wrong_cost : (s : Session) (m : Mode) (cmd : ℕ) (x : List ℕ) (h : ℕ) (t : Bool) → mac_length m ≡ 8 → tag_right s cmd x ≡ false
+    → message_mac_cost (length x - 8) ≡ checked_cost m s cmd x h t
+signed_wrong_cost s Plain cmd x h t l e = absurd (omega arith)
+signed_wrong_cost s Mac cmd x h t l e = cost-mac s cmd x h t false e
+signed_wrong_cost s Full cmd x h t l e = cost_full_wrong s cmd x h t e
+
+pub signed_given : (s : Session) (m : Mode) (cmd : ℕ) (x : List ℕ) (h : ℕ) (t : Bool) → mac_length m ≡ 8 → (m ≡ Full → t ≡ false)
+    → tag_right s cmd x ≡ true → plain (drop h (take (length x - 8) x)) ≡ checked m s cmd x h t
+signed_given s Plain cmd x h t l f e = absurd (omega arith)
+signed_given s Mac cmd x h t l f e = sym (checked-mac s cmd x h t e)
+signed_given s Full cmd x h t l f e = rw (f refl) (sym (checked_full s cmd x h false e ∙ content_none s (command_iv s) _))
+
+pub signed_given_cost : (s : Session) (m : Mode) (cmd : ℕ) (x : List ℕ) (h : ℕ) (t : Bool) → mac_length m ≡ 8 → (m ≡ Full → t ≡ false)
+    → tag_right s cmd x ≡ true → message_mac_cost (length x - 8) ≡ checked_cost m s cmd x h t
+signed_given_cost s Plain cmd x h t l f e = absurd (omega arith)
+signed_given_cost s Mac cmd x h t l f e = cost-mac s cmd x h t true e
+signed_given_cost s Full cmd x h t l f e = rw (f refl) (cost_none s cmd x h e)
 
 -- what was opened, told otherwise
 pub into_as : {o u : Opening} {n k : ℕ} {old new : List ℕ} {r : Opened} → OpensInto o n old r new → o ≡ u → n ≡ k → OpensInto u k old r new

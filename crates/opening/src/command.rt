@@ -3,7 +3,7 @@ ghost use Rattle.std.specs.Prelude.{◌≡◌, true, ◌+◌, ◌-◌, ◌%◌, 
 ghost use Rattle.base.specs.Bytes.{same};
 ghost use Rattle.padding.specs.Padding.{unpad, blocks};
 ghost use Rattle.messaging.specs.Protect.{message_mac, message_mac_cost, command_iv, mac_length, content, text_of, plain, part_cost};
-ghost use Rattle.messaging.specs.declared.Mode.TheVariants.{Mac, Full};
+ghost use Rattle.messaging.specs.declared.Mode.TheVariants.{Full};
 ghost use Rattle.opening.specs.Command.{part_right, length_right, checked, checked_cost, opening, opening_cost, opened_for, OpensInto, Opens};
 
 use crate::{NotOpened, Opened};
@@ -107,37 +107,34 @@ fn give_hidden(s: Session, part: &[u8], room: &mut [u8]) -> Opened
     give_text(text, room, v.cost + blocks)
 }
 
-// Opens a command in MAC, of the right length.
-fn open_mac(s: Session, cmd: u8, x: &[u8], h: usize, room: &mut [u8]) -> Opened
-    requires { (h + 8 ≤ length x.now) × (length x.now ≤ 255) × (length x.now ≤ length room.old) }
-    ensures { OpensInto (checked Mac s cmd x.now h true) (checked_cost Mac s cmd x.now h true) room.old result room.new }
+// Opens a command in MAC or in Full, of the right length.
+fn open_signed(
+    s: Session,
+    m: Mode,
+    cmd: u8,
+    x: &[u8],
+    h: usize,
+    there: bool,
+    room: &mut [u8],
+) -> Opened
+    requires signed { mac_length m ≡ 8 }
+    requires within { (h + 8 ≤ length x.now) × (length x.now ≤ 255) × (length x.now ≤ length room.old) }
+    requires part { part_right m there (length x.now - 8 - h) ≡ true }
+    ensures { OpensInto (checked m s cmd x.now h there) (checked_cost m s cmd x.now h there) room.old result room.new }
 {
-    let m = mac_right(s, cmd, x);
-    if !m.right {
-        return refused(NotOpened::WrongMac, m.cost);
-    }
-    give(&x[h..x.len() - 8], room, m.cost)
-}
-
-// Opens a command in Full, of the right length.
-fn open_full(s: Session, cmd: u8, x: &[u8], h: usize, there: bool, room: &mut [u8]) -> Opened
-    requires h_in_bounds { (h + 8 ≤ length x.now) × (length x.now ≤ 255) × (length x.now ≤ length room.old) }
-    requires h_value { part_right Full there (length x.now - 8 - h) ≡ true }
-    ensures { OpensInto (checked Full s cmd x.now h there) (checked_cost Full s cmd x.now h there) room.old result room.new }
-{
-    let m = mac_right(s, cmd, x);
-    if !m.right {
-        return refused(NotOpened::WrongMac, m.cost);
+    let mac = mac_right(s, cmd, x);
+    if !mac.right {
+        return refused(NotOpened::WrongMac, mac.cost);
     }
     let part = &x[h..x.len() - 8];
-    if !there {
-        return give(part, room, m.cost);
+    if there && m == Mode::Full {
+        let opened = give_hidden(s, part, room);
+        return Opened {
+            cost: mac.cost + opened.cost,
+            ..opened
+        };
     }
-    let o = give_hidden(s, part, room);
-    Opened {
-        data: o.data,
-        cost: m.cost + o.cost,
-    }
+    give(part, room, mac.cost)
 }
 
 // Opens a command into a lent room: its bytes are header, data part and MAC.
@@ -163,7 +160,6 @@ pub fn open(
     }
     match m {
         Mode::Plain => give(&x[h..], room, 0),
-        Mode::Mac => open_mac(s, cmd, x, h, room),
-        Mode::Full => open_full(s, cmd, x, h, there, room),
+        Mode::Mac | Mode::Full => open_signed(s, m, cmd, x, h, there, room),
     }
 }
