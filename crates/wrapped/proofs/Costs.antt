@@ -1,15 +1,14 @@
 -- What the command's own answer costs at most: two blocks where it came with data, the MAC of a reply without any; else 33.
 use mathlib.Core.Bool.{false}
 use mathlib.Core.List.{List}
+use Rattle.std.specs.Prelude.{Ok, Err}
 use Prim.Native.Nat.{ℕ, ◌≤◌}
 use native.Mathlib.Omega.{arith}
 use native.Mathlib.Nat.{le_trans}
 use lib.Dec.{eqb}
 use lib.ListN.{length}
 use Rattle.messaging.specs.declared.Mode.{Mode}
-use Rattle.settings.specs.Answers.{judged}
-use Rattle.settings.specs.declared.Verdict.{Verdict}
-use Rattle.settings.specs.declared.Verdict.TheVariants.{Good, Refused, WrongFile}
+use Rattle.settings.specs.Answers.{Verdict, judged}
 use Rattle.spans.specs.declared.Reading.{Reading}
 use Rattle.spans.specs.Spans.{SpansFit}
 use Rattle.order.specs.declared.Command.{Command}
@@ -37,9 +36,8 @@ changed-key_few t k p =
 
 verdict_few : (t : Tag) (n : ℕ) (r : Reading) (p : List ℕ) (m : Mode) (v : Verdict) → (by_verdict t n r p m v).cost ≤ 2
 unfolding refusal
-verdict_few t n r p m Good = accepted-empty _ m
-verdict_few t n r p m (Refused e) = omega arith
-verdict_few t n r p m (WrongFile f) = omega arith
+verdict_few t n r p m (Ok _) = accepted-empty _ m
+verdict_few t n r p m (Err e) = omega arith
 
 pub changed_settings_few : (t : Tag) (n : ℕ) (r : Reading) (p : List ℕ) (m : Mode) → (changed_settings t n r p m).cost ≤ 2
 unfolding changed_settings

@@ -1,11 +1,12 @@
 -- 01, "Order of checks", steps 8 and 9, of wrapped commands (CLA 90).
-use Rattle.std.specs.Prelude.{List, ℕ, ltb, length}
+use Rattle.std.specs.Prelude.{List, Err, ℕ, ltb, length}
 use Rattle.state.specs.State.{session_of}
 use Rattle.base.specs.Decide.{pick}
-use Rattle.base.specs.Status.{illegal_command_code, length_error}
+use Rattle.base.specs.Status.{illegal_command_code, length_error, integrity_error}
 use Rattle.messaging.specs.declared.Mode.{Mode}
 use Rattle.messaging.specs.Protect.{Opening, plain, wrong_length, wrong_mac, wrong_padding}
-use Rattle.opening.specs.declared.Opened.TheVariants.{WrongLength, WrongMac, WrongPadding}
+use Rattle.opening.specs.declared.NotOpened.{NotOpened}
+use Rattle.opening.specs.declared.NotOpened.TheVariants.{WrongLength, WrongMac, WrongPadding, TooLong, NoRoom}
 use Rattle.opening.specs.Command.{opening, opening_cost, opened_status}
 use Rattle.spans.specs.declared.Reading.{Reading}
 use Rattle.order.specs.declared.Name.{Name}
@@ -50,9 +51,17 @@ opening_cost_of t k x m = opening_cost (session_of t.live) m k.ins x k.header k.
 -- wrong data length for the mode 917E; wrong MAC, then wrong padding 911E
 abbrev pub on_opening : Tag → Command → Reading → Decision → List ℕ → Opening → Answer
 on_opening t k r d random (plain p) = own k.name t k r d p random
-on_opening t k r d random wrong_length = refusal t (opened_status WrongLength)
-on_opening t k r d random wrong_mac = refusal t (opened_status WrongMac)
-on_opening t k r d random wrong_padding = refusal t (opened_status WrongPadding)
+on_opening t k r d random wrong_length = refusal t (opened_status (Err WrongLength))
+on_opening t k r d random wrong_mac = refusal t (opened_status (Err WrongMac))
+on_opening t k r d random wrong_padding = refusal t (opened_status (Err WrongPadding))
+
+-- of the code: the same, of what opening says; a message of over 255 bytes 917E. A room of 256 bytes takes any other
+abbrev pub refused_word : NotOpened → ℕ
+refused_word WrongLength = length_error
+refused_word WrongMac = integrity_error
+refused_word WrongPadding = integrity_error
+refused_word TooLong = length_error
+refused_word NoRoom = length_error
 
 -- no message has over 255 bytes; what opening it costs is added to what its answer costs
 unfoldable pub wrapped : Tag → Command → Reading → Decision → List ℕ → List ℕ → Answer
