@@ -12,7 +12,7 @@ abbrev pub wrong_image : ℕ
 wrong_image = 1005
 
 -- ---- a fresh tag: 0, or 1000 and refusal 4
-unfoldable pub making_number : Result Tag WrongUid → ℕ
+abbrev pub making_number : Result Tag WrongUid → ℕ
 making_number (Ok t) = made_number (Ok t)
 making_number (Err e) = 1000 + made_number (Err e)
 

@@ -6,7 +6,7 @@ ghost use Rattle.making.specs.Making.{Makes};
 use delivery::WrongUid;
 
 // The image of a fresh tag with a UID.
-#[tactic(auto, unfolding(delivery::specs::Fresh::made_number, image::specs::Answers::right_length, image::specs::Answers::stored_in, image::specs::Answers::image_in, crate::specs::Making::making_number))]
+#[tactic(auto, unfolding(delivery::specs::Fresh::made_number, image::specs::Answers::right_length, image::specs::Answers::stored_in, image::specs::Answers::image_in))]
 pub fn make(uid: &[u8], state: &mut [u8]) -> usize
     ensures { Makes uid.now state.old result state.new }
 {
