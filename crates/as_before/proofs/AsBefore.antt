@@ -2,6 +2,7 @@
 use mathlib.Core.Bool.{Bool, true, false, not}
 use mathlib.Core.List.{List, [], ◌∷◌}
 use mathlib.Core.Path.{◌≡◌, refl, ap, ap₂, ◌∙◌}
+use Rattle.std.specs.Prelude.{Ok, Err}
 use Prim.Native.Nat.{ℕ}
 use lib.Dec.{eqb, leb, ltb}
 use lib.ListN.{length}
@@ -17,9 +18,7 @@ use Rattle.order.specs.declared.Name.TheVariants.{AuthenticateFirst, Authenticat
 use Rattle.order.specs.declared.Name.TheVariants.{GetFileSettings, ChangeFileSettings, GetFileCounters, ReadData, WriteData}
 use Rattle.order.specs.declared.Name.TheVariants.{IsoSelectFile, IsoReadBinary, IsoUpdateBinary}
 use Rattle.order.specs.declared.Command.{Command}
-use Rattle.order.specs.declared.Ordered.{Ordered}
-use Rattle.order.specs.declared.Ordered.TheVariants.{Is, Refused}
-use Rattle.order.specs.Commands.{ordered, data_of}
+use Rattle.order.specs.Commands.{Ordered, ordered, data_of}
 use Rattle.state.specs.declared.Live.{Live}
 use Rattle.state.specs.declared.Tag.{Tag}
 use Rattle.state.specs.State.{reading_in}
@@ -37,7 +36,7 @@ use Rattle.binaries.specs.Binaries.{iso_part, read_binary, binary}
 use Rattle.tag.specs.Way.{used_up, from_step7, on_grant, from_step6, commanded, on_order, answered}
 use Rattle.as_before.specs.Before.{Was, by_key, by_tap, free, unasked, never, denied, granted_was, read_was, write_was, change_was, counter_was, grant_was}
 use Rattle.as_before.specs.Before.{under_key_was, mode_was, status_was, decided_was, on_was, from_step6_was, commanded_was, on_order_was, answered_was}
-use Rattle.as_before.specs.AsBefore.{how_alone, SameDecision, SameDecisions, SameAnswers}
+use Rattle.as_before.specs.AsBefore.{how_alone, SameDecisions, SameAnswers}
 
 -- ---- how
 -- two rights, by the tests: a session, a tap; the key in each condition, E in each; all F
@@ -266,8 +265,8 @@ module _ (g : Grant) (t : Tag) where
   command-alike IsoUpdateBinary k r x random = step6_alike k r x random
 
   order_alike : (c random : List ℕ) (o : Ordered) → on_order t c random o ≡ on_order_was g t c random o
-  order_alike c random (Is k) = command-alike k.name k (reading_in t.files k.file) (data_of k c) random
-  order_alike c random (Refused s) = refl
+  order_alike c random (Ok k) = command-alike k.name k (reading_in t.files k.file) (data_of k c) random
+  order_alike c random (Err s) = refl
 
 pub same_answers : SameAnswers
 unfolding answered answered_was

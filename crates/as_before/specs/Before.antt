@@ -1,6 +1,6 @@
 -- The access decision and the way of a command as they were before request 5 of 02: how a command is granted, but not under which right. The
 -- decision is word for word, but for its names; the way too, but for g, which it carries along. Modes of files, reads and step 7 have not changed.
-use Rattle.std.specs.Prelude.{Bool, true, false, not, List, ℕ, eqb, leb}
+use Rattle.std.specs.Prelude.{Bool, true, false, not, List, Ok, Err, ℕ, eqb, leb}
 use Rattle.base.specs.Decide.{pick, and, or}
 use Rattle.base.specs.Status.{operation_ok, permission_denied, authentication_error, iso_normal, iso_security}
 use Rattle.messaging.specs.declared.Mode.{Mode}
@@ -12,9 +12,7 @@ use Rattle.order.specs.declared.Name.TheVariants.{AuthenticateFirst, Authenticat
 use Rattle.order.specs.declared.Name.TheVariants.{GetFileSettings, ChangeFileSettings, GetFileCounters, ReadData, WriteData}
 use Rattle.order.specs.declared.Name.TheVariants.{IsoSelectFile, IsoReadBinary, IsoUpdateBinary}
 use Rattle.order.specs.declared.Command.{Command}
-use Rattle.order.specs.declared.Ordered.{Ordered}
-use Rattle.order.specs.declared.Ordered.TheVariants.{Is, Refused}
-use Rattle.order.specs.Commands.{ordered, data_of}
+use Rattle.order.specs.Commands.{Ordered, ordered, data_of}
 use Rattle.state.specs.declared.Live.{Live}
 use Rattle.state.specs.declared.Tag.{Tag}
 use Rattle.state.specs.State.{reading_in}
@@ -159,8 +157,8 @@ commanded_was g IsoUpdateBinary t k r x random = from_step6_was g t k r x random
 
 -- steps 1 to 5 refuse it, or it goes on
 abbrev pub on_order_was : Grant → Tag → List ℕ → List ℕ → Ordered → Answer
-on_order_was g t c random (Is k) = commanded_was g k.name t k (reading_in t.files k.file) (data_of k c) random
-on_order_was g t c random (Refused s) = refusal t s
+on_order_was g t c random (Ok k) = commanded_was g k.name t k (reading_in t.files k.file) (data_of k c) random
+on_order_was g t c random (Err s) = refusal t s
 
 -- what a tag answers to a command
 unfoldable pub answered_was : Grant → Tag → List ℕ → List ℕ → Answer

@@ -2,10 +2,11 @@
 use mathlib.Core.Path.{◌≡◌, refl, sym, ap, ap₂, ◌∙◌}
 use mathlib.Core.Bool.{Bool, true, false}
 use mathlib.Core.List.{List, [], ◌∷◌}
+use Rattle.std.specs.Prelude.{Option}
 use Prim.Native.Nat.{ℕ, ◌+◌, ◌≤◌, ◌<◌, ◌/◌, ◌%◌}
 use native.Mathlib.Omega.{arith}
 use lib.Dec.{eqb, ltb}
-use lib.ListN.{length, take}
+use lib.ListN.{length}
 use borrow.Author.Tests.{lt-ltb, le-ltb, eq-eqb, ne_eqb}
 use Rattle.base.specs.Decide.{pick}
 use Rattle.base.specs.Bytes.{laid, over}
@@ -13,7 +14,9 @@ use Rattle.base.proofs.Bytes.{none}
 use Rattle.base.proofs.Pieces.{also}
 use Rattle.state.specs.declared.Tag.{Tag}
 use Rattle.soundness.specs.Sound.{sound_tag}
-use Rattle.access.specs.declared.Noted.{Noted}
+use Rattle.access.specs.declared.Grant.{Grant}
+use Rattle.buffers.specs.Text.{text_of}
+use Rattle.statuses.specs.Words.{status_word}
 use Rattle.replies.specs.declared.Done.{Done}
 use Rattle.replies.specs.Answer.{Answer, Gives, answer_of}
 use Rattle.tag.specs.declared.Outcome.{Outcome}
@@ -32,8 +35,8 @@ laid-reply text n s old mid new e f r p q =
     record { count = h.len; room = h.is; short = omega arith }
 
 -- what the code's answer says is the reply, and what it notes is noted
-pub replies : (a : Answer) (d : Done) (old new : List ℕ) (n : ℕ) → Gives a d → Laid (with_status (take d.length d.bytes) d.status) old n new
-    → (m k : Noted) → m ≡ k → Replies a k old (record { outcome = Replied; length = n; tag = d.tag; noted = m; cost = d.cost }) new
+pub replies : (a : Answer) (d : Done) (old new : List ℕ) (n : ℕ) → Gives a d → Laid (with_status (text_of d.«data») (status_word d.status)) old n new
+    → (m k : Option Grant) → m ≡ k → Replies a k old (record { outcome = Replied; length = n; tag = d.tag; noted = m; cost = d.cost }) new
 unfolding replied reply_of answer_of
 replies a d old new n g h m k e =
     record {
@@ -69,7 +72,7 @@ number_is t random room = by (ltb (length room) 258) (eqb (length random) 20) (s
     by false true true = refl
     by false true false = refl
 
-outcome-number : (t : Tag) (a : Answer) (n : Noted) (o : Outcome) → refusal_number (by_outcome t a n o).outcome ≡ refusal_number o
+outcome-number : (t : Tag) (a : Answer) (n : Option Grant) (o : Outcome) → refusal_number (by_outcome t a n o).outcome ≡ refusal_number o
 unfolding replied unanswered
 outcome-number t a n Replied = refl
 outcome-number t a n SmallRoom = refl

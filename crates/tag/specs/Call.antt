@@ -1,11 +1,10 @@
 -- A call: refusals 1 to 3, and the reply in the room.
-use Rattle.std.specs.Prelude.{List, [], ◌∷◌, ◌++◌, ◌≡◌, ℕ, ◌/◌, ◌%◌, ◌≤◌, eqb, ltb, length}
+use Rattle.std.specs.Prelude.{List, Option, None, [], ◌∷◌, ◌++◌, ◌≡◌, ℕ, ◌/◌, ◌%◌, ◌≤◌, eqb, ltb, length}
 use Rattle.base.specs.Decide.{pick}
 use Rattle.base.specs.Bytes.{over}
 use Rattle.state.specs.declared.Tag.{Tag}
 use Rattle.soundness.specs.Sound.{sound_tag}
-use Rattle.access.specs.declared.Noted.{Noted}
-use Rattle.access.specs.declared.Noted.TheVariants.{Unreached}
+use Rattle.access.specs.declared.Grant.{Grant}
 use Rattle.replies.specs.Answer.{Answer}
 use Rattle.tag.specs.Way.{answered, noted}
 use Rattle.tag.specs.declared.Outcome.{Outcome}
@@ -37,13 +36,13 @@ refusal_of t random room = pick (ltb (length room) 258) 1 (pick (eqb (length ran
 
 -- refused: length 0 and the state as it was; the command never got to the access decision, and nothing was computed
 unfoldable pub unanswered : Outcome → Tag → Called
-unanswered o t = record { outcome = o; length = 0; tag = t; noted = Unreached; cost = 0 }
+unanswered o t = record { outcome = o; length = 0; tag = t; noted = None; cost = 0 }
 
 -- a reply: its length, the next state, what the journal notes, and what it cost
-unfoldable pub replied : Answer → Noted → Called
+unfoldable pub replied : Answer → Option Grant → Called
 replied a n = record { outcome = Replied; length = length (reply_of a); tag = a.tag; noted = n; cost = a.cost }
 
-abbrev pub by_outcome : Tag → Answer → Noted → Outcome → Called
+abbrev pub by_outcome : Tag → Answer → Option Grant → Outcome → Called
 by_outcome t a n Replied = replied a n
 by_outcome t a n SmallRoom = unanswered SmallRoom t
 by_outcome t a n WrongRandom = unanswered WrongRandom t
@@ -57,11 +56,11 @@ room_by a room WrongRandom = room
 room_by a room Unsound = room
 
 -- what the journal notes; on a refusal that the command never got to the access decision
-abbrev pub noted_by : Noted → Outcome → Noted
+abbrev pub noted_by : Option Grant → Outcome → Option Grant
 noted_by n Replied = n
-noted_by n SmallRoom = Unreached
-noted_by n WrongRandom = Unreached
-noted_by n Unsound = Unreached
+noted_by n SmallRoom = None
+noted_by n WrongRandom = None
+noted_by n Unsound = None
 
 -- how many blocks were computed (02, request 10); before a refusal none
 abbrev pub cost_by : Answer → Outcome → ℕ
@@ -84,7 +83,7 @@ pub record Laid (text old : List ℕ) (n : ℕ) (new : List ℕ) : Type 0 where
   pub short : n ≤ 258
 
 -- an answer as a reply, and what the journal notes
-pub record Replies (a : Answer) (n : Noted) (old : List ℕ) (r : Called) (new : List ℕ) : Type 0 where
+pub record Replies (a : Answer) (n : Option Grant) (old : List ℕ) (r : Called) (new : List ℕ) : Type 0 where
   pub told : r ≡ replied a n
   pub left : new ≡ over (reply_of a) old
   pub short : r.length ≤ 258

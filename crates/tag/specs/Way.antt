@@ -1,5 +1,5 @@
 -- 01, "Order of checks": the way of a command, from its bytes to its answer; and what a journal notes of it (02, request 5).
-use Rattle.std.specs.Prelude.{Bool, List, ℕ, eqb}
+use Rattle.std.specs.Prelude.{Bool, List, Option, Some, None, Ok, Err, ℕ, eqb}
 use Rattle.base.specs.Decide.{pick, and}
 use Rattle.base.specs.Status.{authentication_error, iso_security}
 use Rattle.spans.specs.declared.Reading.{Reading}
@@ -8,14 +8,10 @@ use Rattle.order.specs.declared.Name.TheVariants.{AuthenticateFirst, Authenticat
 use Rattle.order.specs.declared.Name.TheVariants.{GetFileSettings, ChangeFileSettings, GetFileCounters, ReadData, WriteData}
 use Rattle.order.specs.declared.Name.TheVariants.{IsoSelectFile, IsoReadBinary, IsoUpdateBinary}
 use Rattle.order.specs.declared.Command.{Command}
-use Rattle.order.specs.declared.Ordered.{Ordered}
-use Rattle.order.specs.declared.Ordered.TheVariants.{Is, Refused}
-use Rattle.order.specs.Commands.{ordered, data_of}
+use Rattle.order.specs.Commands.{Ordered, ordered, data_of}
 use Rattle.access.specs.declared.Grant.{Grant}
 use Rattle.access.specs.declared.Grant.TheVariants.{ByKey, ByTap, Free, Unasked, Never, Denied}
 use Rattle.access.specs.declared.Decision.{Decision}
-use Rattle.access.specs.declared.Noted.{Noted}
-use Rattle.access.specs.declared.Noted.TheVariants.{Unreached, Decided}
 use Rattle.access.specs.Access.{decided, grant_status}
 use Rattle.state.specs.declared.Tag.{Tag}
 use Rattle.state.specs.State.{reading_in}
@@ -69,8 +65,8 @@ commanded IsoUpdateBinary t k r x random = from_step6 t k r x random
 
 -- steps 1 to 5 refuse it, or it goes on
 abbrev pub on_order : Tag → List ℕ → List ℕ → Ordered → Answer
-on_order t c random (Is k) = commanded k.name t k (reading_in t.files k.file) (data_of k c) random
-on_order t c random (Refused s) = refusal t s
+on_order t c random (Ok k) = commanded k.name t k (reading_in t.files k.file) (data_of k c) random
+on_order t c random (Err s) = refusal t s
 
 -- what a tag answers to a command
 unfoldable pub answered : Tag → List ℕ → List ℕ → Answer
@@ -79,9 +75,9 @@ answered t c random = on_order t c random (ordered c t.pending.on t.place.applic
 -- ---- the journal
 -- refused by steps 1 to 5, it never got to the decision; behind them it notes what the decision answers, whatever refuses later. 71, 77, AF and
 -- selects, without an access step, are under none of the rights
-abbrev pub noted_on : Tag → Ordered → Noted
-noted_on t (Is k) = Decided (decided k.name t.live (reading_in t.files k.file).settings.head).grant
-noted_on t (Refused s) = Unreached
+abbrev pub noted_on : Tag → Ordered → Option Grant
+noted_on t (Ok k) = Some (decided k.name t.live (reading_in t.files k.file).settings.head).grant
+noted_on t (Err s) = None
 
-unfoldable pub noted : Tag → List ℕ → Noted
+unfoldable pub noted : Tag → List ℕ → Option Grant
 noted t c = noted_on t (ordered c t.pending.on t.place.application t.place.file)

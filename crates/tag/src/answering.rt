@@ -1,46 +1,46 @@
 // The way of a command: steps 1 to 5, access, step 7, and then the command itself; and what a journal notes of it.
-ghost use Rattle.std.specs.Prelude.{true, ◌≡◌, ◌≤◌, eqb, length};
+ghost use Rattle.std.specs.Prelude.{true, ◌≡◌, ◌≤◌, eqb, length, Some};
 ghost use Rattle.base.specs.Decide.{pick};
 ghost use Rattle.spans.specs.Spans.{SpansFit};
 ghost use Rattle.state.specs.State.{reading_in};
 ghost use Rattle.soundness.specs.Sound.{sound_tag, judged_tag};
 ghost use Rattle.order.specs.Commands.{data_of};
 ghost use Rattle.access.specs.Access.{decided};
-ghost use Rattle.access.specs.declared.Noted.TheVariants.{Decided};
+ghost use Rattle.statuses.specs.Words.{status_word};
 ghost use Rattle.replies.specs.Answer.{Gives};
-ghost use Rattle.tag.specs.Way.{used_up, from_step7, on_grant, from_step6, commanded, answered, noted};
+ghost use Rattle.tag.specs.Way.{used_up, from_step7, from_step6, commanded, answered, noted};
 
-use access::{Decision, Grant, Noted};
-use order::{Command, Name, Ordered};
+use access::{Decision, Grant};
+use order::{Command, Name};
 use replies::Done;
 use soundness::Judged;
 use spans::Reading;
-use state::Tag;
+use state::{Live, Tag};
+use statuses::Status;
 
 // In session with CmdCtr used up.
-fn used_up(on: bool, counter: u16) -> bool
-    ensures { result ≡ used_up on counter }
+fn used_up(live: Live) -> bool
+    ensures { result ≡ used_up live.on live.counter }
 {
-    if on {
-        return counter == 65535;
-    }
-    false
+    live.on && live.counter == 65535
 }
 
 // One status for a wrapped command, one for CLA 00.
-fn by_class(class: u8, wrapped: u16, iso: u16) -> u16
-    ensures { result ≡ pick (eqb class 0x90) wrapped iso }
+fn by_class(class: u8, wrapped: Status, iso: Status) -> Status
+    ensures { status_word result ≡ pick (eqb class 0x90) (status_word wrapped) (status_word iso) }
 {
     if class == 0x90 { wrapped } else { iso }
 }
 
 // Steps 7 to 9 of a command that is granted.
+#[tactic(auto, unfolding(crate::specs::Way::from_step7))]
 fn from_step_7(tag: Tag, k: Command, r: Reading, d: Decision, x: &[u8], random: [u8; 20]) -> Done
     requires { SpansFit r }
     ensures { Gives (from_step7 tag k r d x.now random) result }
 {
-    if used_up(tag.live.on, tag.live.counter) {
-        return replies::refuse(tag, by_class(k.class, 0x91AE, 0x6982));
+    if used_up(tag.live) {
+        let status = by_class(k.class, Status::AuthenticationError, Status::IsoSecurity);
+        return replies::refuse(tag, status);
     }
     if k.class == 0x90 {
         return wrapped::wrapped(tag, k, r, d, x, random);
@@ -48,54 +48,33 @@ fn from_step_7(tag: Tag, k: Command, r: Reading, d: Decision, x: &[u8], random: 
     binaries::binary(tag, k, r, d, x, random)
 }
 
-// Behind the decision.
-fn on_grant(
-    g: Grant,
-    tag: Tag,
-    k: Command,
-    r: Reading,
-    d: Decision,
-    x: &[u8],
-    random: [u8; 20],
-) -> Done
-    requires { SpansFit r }
-    ensures { Gives (on_grant g tag k r d x.now random) result }
-{
-    match g {
-        Grant::Never => replies::refuse(tag, by_class(k.class, 0x919D, 0x6982)),
-        Grant::Denied => replies::refuse(tag, by_class(k.class, 0x91AE, 0x6982)),
-        Grant::ByKey(_) => from_step_7(tag, k, r, d, x, random),
-        Grant::ByTap => from_step_7(tag, k, r, d, x, random),
-        Grant::Free(_) => from_step_7(tag, k, r, d, x, random),
-        Grant::Unasked => from_step_7(tag, k, r, d, x, random),
-    }
-}
-
 // Step 6: access, as it was decided.
+#[tactic(auto, unfolding(crate::specs::Way::from_step6, crate::specs::Way::on_grant, access::specs::Access::grant_status))]
 fn from_step_6(tag: Tag, k: Command, r: Reading, d: Decision, x: &[u8], random: [u8; 20]) -> Done
     requires spans_fit { SpansFit r }
     requires d_value { d ≡ decided k.name tag.live r.settings.head }
     ensures { Gives (from_step6 tag k r x.now random) result }
 {
-    let g = d.grant;
-    on_grant(g, tag, k, r, d, x, random)
+    let status = match d.grant {
+        Grant::Never => Status::PermissionDenied,
+        Grant::Denied => Status::AuthenticationError,
+        Grant::ByKey(_) | Grant::ByTap | Grant::Free(_) | Grant::Unasked => {
+            return from_step_7(tag, k, r, d, x, random);
+        }
+    };
+    replies::refuse(tag, by_class(k.class, status, Status::IsoSecurity))
 }
 
-// A command behind steps 1 to 5; r are the settings of its file, d is the decision, x is its data.
-fn commanded(
-    name: Name,
-    tag: Tag,
-    k: Command,
-    r: Reading,
-    d: Decision,
-    x: &[u8],
-    random: [u8; 20],
-) -> Done
+// A command behind steps 1 to 5, its data among its bytes; r are the settings of its file, d is the decision.
+#[tactic(auto, unfolding(crate::specs::Way::commanded, order::specs::Commands::data_of))]
+fn commanded(tag: Tag, k: Command, r: Reading, d: Decision, c: &[u8], random: [u8; 20]) -> Done
     requires spans_fit { SpansFit r }
     requires d_value { d ≡ decided k.name tag.live r.settings.head }
-    ensures { Gives (commanded name tag k r x.now random) result }
+    requires data_inside { (k.start ≤ k.end) × (k.end ≤ length c.now) }
+    ensures { Gives (commanded k.name tag k r (data_of k c.now) random) result }
 {
-    match name {
+    let x = &c[k.start..k.end];
+    match k.name {
         Name::AuthenticateFirst => auth::first(tag, x, random),
         Name::AuthenticateNonFirst => auth::next(tag, x, random),
         Name::PartTwo => part_two::second(tag, x, random),
@@ -104,44 +83,29 @@ fn commanded(
     }
 }
 
-// The same, its data among its bytes.
-fn on_bytes(tag: Tag, k: Command, r: Reading, d: Decision, c: &[u8], random: [u8; 20]) -> Done
-    requires spans_fit { SpansFit r }
-    requires d_value { d ≡ decided k.name tag.live r.settings.head }
-    requires start_le_end { (k.start ≤ k.end) × (k.end ≤ length c.now) }
-    ensures { Gives (commanded k.name tag k r (data_of k c.now) random) result }
-{
-    let name = k.name;
-    let a = k.start;
-    let e = k.end;
-    commanded(name, tag, k, r, d, &c[a..e], random)
-}
-
 // An answer, and what a journal notes of it.
 #[derive(Clone, Copy)]
 pub struct Journalled {
     pub done: Done,
-    pub noted: Noted,
+    pub noted: Option<Grant>,
 }
 
 // The access decision, asked once, and what follows from it.
 fn on_command(tag: Tag, k: Command, r: Reading, c: &[u8], random: [u8; 20]) -> Journalled
     requires spans_fit { SpansFit r }
-    requires start_le_end { (k.start ≤ k.end) × (k.end ≤ length c.now) }
+    requires data_inside { (k.start ≤ k.end) × (k.end ≤ length c.now) }
     ensures answer { Gives (commanded k.name tag k r (data_of k c.now) random) result.done }
-    ensures noted { result.noted ≡ Decided (decided k.name tag.live r.settings.head).grant }
+    ensures noted { result.noted ≡ Some (decided k.name tag.live r.settings.head).grant }
 {
-    let name = k.name;
-    let d = access::decide(name, tag.live, r.settings.head);
-    let g = d.grant;
-    let done = on_bytes(tag, k, r, d, c, random);
+    let d = access::decide(k.name, tag.live, r.settings.head);
     Journalled {
-        done,
-        noted: Noted::Decided(g),
+        done: commanded(tag, k, r, d, c, random),
+        noted: Some(d.grant),
     }
 }
 
 // What the settings of file n mean, as judging read them; a number that no file has is asked of the state.
+#[tactic(auto, unfolding(soundness::specs::Sound::judged_tag))]
 fn reading_for(tag: Tag, j: Judged, n: u8) -> Reading
     requires { j ≡ judged_tag tag }
     ensures { result ≡ reading_in tag.files n }
@@ -155,18 +119,18 @@ fn reading_for(tag: Tag, j: Judged, n: u8) -> Reading
 }
 
 // The answer to a command, of a sound tag that was judged so.
+#[tactic(auto, unfolding(crate::specs::Way::answered, crate::specs::Way::noted))]
 pub fn answered(tag: Tag, j: Judged, c: &[u8], random: [u8; 20]) -> Journalled
     requires j_value { j ≡ judged_tag tag }
     requires tag_value { sound_tag tag ≡ true }
     ensures answer { Gives (answered tag c.now random) result.done }
     ensures noted { result.noted ≡ noted tag c.now }
 {
-    let o = order::command_in(c, tag.pending.on, tag.place.application, tag.place.file);
-    match o {
-        Ordered::Is(k) => on_command(tag, k, reading_for(tag, j, k.file), c, random),
-        Ordered::Refused(s) => Journalled {
-            done: replies::refuse(tag, s),
-            noted: Noted::Unreached,
+    match order::command_in(c, tag.pending.on, tag.place.application, tag.place.file) {
+        Ok(k) => on_command(tag, k, reading_for(tag, j, k.file), c, random),
+        Err(status) => Journalled {
+            done: replies::refuse(tag, status),
+            noted: None,
         },
     }
 }

@@ -4,13 +4,13 @@
 mod answering;
 mod entry;
 
-use access::Noted;
+use access::Grant;
 pub use delivery::{WrongUid, fresh};
 pub use entry::call;
 pub use state::Tag;
 
 // A reply, or refusals 1 to 3.
-#[derive(Clone, Copy)]
+#[derive(Clone, Copy, Debug, PartialEq, Eq)]
 pub enum Outcome {
     Replied,
     SmallRoom,
@@ -18,12 +18,13 @@ pub enum Outcome {
     Unsound,
 }
 
-// The outcome, the reply's length, the next state, what a journal notes of the call, and how many AES blocks were computed.
+// The outcome, the reply's length, the next state, what a journal notes of the access decision, if the call got to it, and how many
+// AES blocks were computed.
 #[derive(Clone, Copy)]
 pub struct Called {
     pub outcome: Outcome,
     pub length: usize,
     pub tag: Tag,
-    pub noted: Noted,
+    pub noted: Option<Grant>,
     pub cost: usize,
 }
