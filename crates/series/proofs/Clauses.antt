@@ -2,9 +2,9 @@
 use mathlib.Core.Path.{◌≡◌, refl, sym, ◌∙◌, ap}
 use mathlib.Core.Bool.{Bool, true, false, not}
 use mathlib.Core.List.{List}
-use Prim.Native.Nat.{ℕ, ◌-◌}
+use Prim.Native.Nat.{ℕ}
 use lib.Dec.{eqb, leb}
-use Rattle.base.specs.Decide.{and, or}
+use Rattle.base.specs.Decide.{or}
 use Rattle.base.specs.Bytes.{same}
 use Rattle.base.proofs.Bytes.{and_left, and_right}
 use Rattle.state.specs.State.{no_padding}

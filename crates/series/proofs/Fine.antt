@@ -3,10 +3,9 @@ use Rattle.std.specs.Prelude.{Err}
 use mathlib.Core.Path.{◌≡◌}
 use mathlib.Core.Bool.{true, false}
 use mathlib.Core.List.{List}
-use Prim.Native.Nat.{ℕ, ◌-◌}
+use Prim.Native.Nat.{ℕ}
 use lib.Dec.{eqb, leb}
 use lib.ListN.{length}
-use Rattle.base.specs.Decide.{and}
 use Rattle.base.specs.Bytes.{byte_at}
 use Rattle.base.proofs.Bytes.{and_left, and_right}
 use Rattle.messaging.specs.declared.Mode.{Mode}

@@ -4,10 +4,10 @@ use Rattle.access.specs.declared.Grant.{Grant}
 use mathlib.Core.Path.{◌≡◌, refl}
 use mathlib.Core.Bool.{Bool, true, false}
 use mathlib.Core.List.{List, [], ◌∷◌}
-use Prim.Native.Nat.{ℕ, ◌-◌, ◌≤◌}
+use Prim.Native.Nat.{ℕ, ◌≤◌}
 use lib.ListN.{drop}
 use borrow.Author.Tests.{le-leb}
-use Rattle.base.specs.Decide.{and, or}
+use Rattle.base.specs.Decide.{or}
 use Rattle.messaging.specs.declared.Mode.TheVariants.{Full}
 use Rattle.state.specs.declared.Live.{Live}
 use Rattle.state.specs.declared.Pending.{Pending}

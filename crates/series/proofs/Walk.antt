@@ -1,6 +1,5 @@
 -- Every answer is of one of a few kinds: what holds of each kind holds of every answer.
 use Rattle.std.specs.Prelude.{Err, None, Ok, Option, Some, Result}
-use Rattle.settings.specs.declared.Fault.TheVariants.{String, File}
 use mathlib.Core.Path.{◌≡◌, refl, sym, subst, ap, ◌∙◌}
 use mathlib.Core.Bool.{Bool, true, false, not}
 use mathlib.Core.List.{List, [], ◌∷◌}
@@ -19,8 +18,7 @@ use Rattle.opening.specs.declared.NotOpened.TheVariants.{WrongLength, WrongMac, 
 use Rattle.authentication.specs.Authentication.{part_two, proof_status}
 use Rattle.messaging.specs.Protect.{Opening, plain, wrong_length, wrong_mac, wrong_padding}
 use Rattle.opening.specs.Command.{opened_status}
-use Rattle.settings.specs.Answers.{Verdict, judged, status_word}
-use Rattle.settings.specs.Filing.{file_fault_word}
+use Rattle.settings.specs.Answers.{Verdict, judged, fault_word}
 use Rattle.spans.specs.declared.Reading.{Reading}
 use Rattle.order.specs.declared.Name.{Name}
 use Rattle.order.specs.declared.Name.TheVariants.{AuthenticateFirst, AuthenticateNonFirst, PartTwo, ChangeKey, GetKeyVersion, GetCardUid}
@@ -157,8 +155,7 @@ module _ (t : Tag) (c random : List ℕ) (P : Answer → Type 0) (kind : Kinds t
 
   verdict_kind : (n : ℕ) (p : List ℕ) (m : Mode) → Sent t c n p m → (v : Verdict) → judged n p ≡ v → P (by_verdict t n (reading_in t.files n) p m v)
   verdict_kind n p m s (Ok _) e = kind.restrings n p m s e
-  verdict_kind n p m s (Err (String r)) e = kind.refuses (status_word r)
-  verdict_kind n p m s (Err (File f)) e = kind.refuses (file_fault_word f)
+  verdict_kind n p m s (Err f) e = kind.refuses (fault_word f)
 
   settings_kind : (n : ℕ) (p : List ℕ) (m : Mode) → Sent t c n p m → P (changed_settings t n (reading_in t.files n) p m)
   unfolding changed_settings
