@@ -14,7 +14,7 @@ use Rattle.messaging.specs.declared.Mode.{Mode}
 use Rattle.messaging.specs.Protect.{plain}
 use Rattle.settings.specs.declared.Status.{Status}
 use Rattle.settings.specs.declared.Status.TheVariants.{LengthError, ParameterError}
-use Rattle.settings.specs.Answers.{Verdict, judged, status_word}
+use Rattle.settings.specs.Answers.{Verdict, judged, status_word, fault_word}
 use Rattle.settings.specs.declared.FileFault.{FileFault}
 use Rattle.settings.specs.declared.FileFault.TheVariants.{OverThirtyOne, NoSuchFile}
 use Rattle.settings.specs.Filing.{file_fault_word, file_status}
@@ -99,7 +99,7 @@ module _ (t : Tag) (c random : List ℕ) (class : byte_at c 0 ≡ 0x90) (command
 
   verdict_change : (p : List ℕ) (m : Mode) → Sent t c n p m → t.pending.on ≡ false → file_status n ≡ 0 → (v : Verdict) → judged n p ≡ v
       → P (by_verdict t n (reading_in t.files n) p m v)
-  unfolding n
+  unfolding n fault_word
   verdict_change p m s i f (Ok _) e = λ h. record { mode = m; text = p; sent = s; idle = i; place = f; good = e; is = refl }
   verdict_change p m s i f (Err (String r)) e = refused (status_word r) (word_bars r)
   verdict_change p m s i f (Err (File x)) e = refused (file_fault_word x) (fault_bars x)

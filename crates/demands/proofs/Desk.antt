@@ -9,7 +9,7 @@ use native.Mathlib.Omega.{arith}
 use lib.Dec.{lit<}
 use lib.ListN.{length, replicate}
 use borrow.Author.Tests.{le-ltb}
-use Rattle.base.specs.Decide.{and, one_of}
+use Rattle.base.specs.Decide.{one_of}
 use Rattle.base.specs.Bytes.{byte_at, AllBytes, laid}
 use Rattle.aes.specs.Block.{IsBlock}
 use Rattle.key_expansion.specs.Keys.{key_expansion}

@@ -12,7 +12,7 @@ use native.Mathlib.Omega.{arith}
 use lib.Dec.{eqb, ltb}
 use lib.ListN.{length}
 use borrow.Author.Tests.{eqb-true, eq-eqb, lt-ltb, le-ltb}
-use Rattle.base.specs.Decide.{pick, and, or, one_of}
+use Rattle.base.specs.Decide.{pick, and, one_of}
 use Rattle.base.specs.Bytes.{byte_at, AllBytes}
 use Rattle.base.proofs.Bytes.{and_right}
 use Rattle.aes.specs.Block.{IsBlock}
@@ -47,7 +47,7 @@ use Rattle.change_settings.specs.ChangeSettings.{restrung, by_verdict, changed_s
 use Rattle.tag.specs.declared.Outcome.TheVariants.{Replied}
 use Rattle.order.specs.Order.{header_length, has_data}
 use Rattle.order.specs.Commands.{wrapped_command}
-use Rattle.wrapped.specs.Wrapped.{own, wrapped}
+use Rattle.wrapped.specs.Wrapped.{own}
 use Rattle.tag.specs.Way.{from_step6, answered}
 use Rattle.tag.specs.Call.{with_status, reply_of, outcome_of, room_by}
 use Rattle.series.specs.Series.{step, allows}

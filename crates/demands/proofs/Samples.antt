@@ -1,4 +1,5 @@
 -- The samples (specs/Samples.antt): each side computes to the other.
+use Rattle.settings.specs.Answers.{fault_word}
 use mathlib.Core.Bool.{Bool, true}
 use mathlib.Core.Path.{refl}
 use Rattle.opening.specs.Command.{sent_command}
@@ -71,7 +72,7 @@ unfolding a_sample a_call soundness
 not_ready = record { level = refl; pending = refl; counter = refl; right = refl; room = refl; file = refl; random = refl; sound = refl }
 
 pub not_met : NotMet
-unfolding a_sample a_call change_five sent_command carried changing string_of front_bytes listed field_fits fields_fit sdm_absent sdm_part modes meets
+unfolding a_sample a_call change_five sent_command carried changing string_of front_bytes listed field_fits fields_fit sdm_absent sdm_part modes meets fault_word
 not_met = record { unmet = refl; string = refl; refuses = refl }
 
 pub not-typed : NotTyped
