@@ -1,5 +1,5 @@
 -- No call passes 35 blocks: each kind of answer, and what opening its message costs.
-use Rattle.std.specs.Prelude.{Err, None, Ok, Option, Some}
+use Rattle.std.specs.Prelude.{None, Ok, Option, Some}
 use mathlib.Core.Bool.{Bool, true, false}
 use mathlib.Core.Path.{◌≡◌, refl, sym, ap, subst, ◌∙◌}
 use mathlib.Core.List.{List, [], ◌∷◌}
@@ -75,7 +75,7 @@ module _ (t : Tag) (random : List ℕ) where
   second_few x =
       let kx = key_in t.secrets.keys t.pending.key in
       let p = part_two kx t.pending.rnd_b x in
-      omega (arith, proof_few kx t.pending.rnd_b x, by_proof_few t kx p.a random p.proof)
+      omega (arith, proof_few kx t.pending.rnd_b x, by_proof_few t kx random p.a)
 
   moved_few : (application : Bool) → Few (moved t application)
   unfolding moved

@@ -1,14 +1,14 @@
 -- What the mirrors cost is 02's formula, and never over 28 (specs/CipherWork.antt).
 use Rattle.std.specs.Prelude.{Ok}
-use mathlib.Core.Bool.{Bool, true, false, not}
-use mathlib.Core.Path.{◌≡◌, refl, sym, ap, ap₂, ◌∙◌}
+use mathlib.Core.Bool.{Bool, true, false}
+use mathlib.Core.Path.{◌≡◌, refl, ap, ap₂}
 use mathlib.Core.List.{List, ◌∷◌, []}
 use mathlib.Core.Logic.{◌⊎◌, inl, inr, ⊎_elim}
 use Prim.Native.Nat.{ℕ, zero, suc, max, ◌+◌, ◌-◌, ◌/◌, ◌≤◌}
 use native.Mathlib.Omega.{arith}
 use borrow.Author.Tests.{leb-true, ne_eqb}
 use lib.Dec.{eqb, leb}
-use Rattle.base.specs.Decide.{pick, and, or}
+use Rattle.base.specs.Decide.{pick}
 use Rattle.base.proofs.Bytes.{and_left, and_right}
 use Rattle.writing.proofs.Small.{or_true}
 use Rattle.cbc.specs.Cbc.{cbc_cost}
@@ -18,7 +18,7 @@ use Rattle.fields.specs.declared.Settings.{Settings}
 use Rattle.fields.specs.Fields.{has_picc, has_mac, has_enc, head_of, sdm_on, read_of}
 use Rattle.spans.specs.declared.Span.{Span}
 use Rattle.spans.specs.Spans.{span, uid_span, counter_span, picc_span, enc_span, mac_span, spans_of, reading_of, end_of, inside, apart, apart_from, all_apart}
-use Rattle.rules.specs.Rules.{enc_needs, enc_size, enc_between}
+use Rattle.rules.specs.Rules.{enc_needs, enc_between}
 use Rattle.settings.specs.Answers.{judged}
 use Rattle.meanings.proofs.Kept.{Positions, positions_held, sdm_kept}
 use Rattle.meanings.proofs.Mirrors.{positions_kept}

@@ -28,7 +28,7 @@ use Rattle.series.proofs.Computing.{a_state, access, an_answer, an_order, a_wrap
 use Rattle.demands.proofs.Samples.{a_sample}
 use Rattle.fields.specs.Fields.{read_of, string_of, front_bytes, sdm_bytes, written, listed}
 use Rattle.rules.specs.Rules.{field_fits, fields_fit, sdm_absent, sdm_part, modes, kept, sdm_meets, meets}
-use Rattle.settings.specs.Answers.{verdict_word}
+use Rattle.settings.specs.Answers.{verdict_word, fault_word}
 use Rattle.state.specs.State.{reading_in, session_of}
 use Rattle.delivery.specs.Fresh.{right_uid}
 use Rattle.closing.specs.Reply.{closed_cost, closed_length, hidden_length, overlong}
@@ -156,5 +156,5 @@ not-mirrored =
     }
 
 pub not_good : NotGood
-unfolding a_tap-sample too_far a_cost verdict_word
+unfolding a_tap-sample too_far a_cost verdict_word fault_word
 not_good = record { on = refl; refused = refl; passes = refl }

@@ -1,5 +1,5 @@
 -- Samples: the settings string that reaches 28 and the call that reaches 35, and what fails without a premise.
-use Rattle.std.specs.Prelude.{Bool, true, false, List, [], ◌∷◌, ◌++◌, ◌≡◌, ℕ, ◌-◌, length, replicate}
+use Rattle.std.specs.Prelude.{true, false, List, [], ◌∷◌, ◌++◌, ◌≡◌, ℕ, ◌-◌, length, replicate}
 use Rattle.messaging.specs.declared.Mode.TheVariants.{Plain, Full}
 use Rattle.opening.specs.Command.{sent_command}
 use Rattle.fields.specs.Fields.{read_of, string_of, sdm_on}
@@ -8,11 +8,11 @@ use Rattle.state.specs.declared.Tag.{Tag}
 use Rattle.state.specs.State.{rules_of, filed, placed, talking, no_pending, session_of}
 use Rattle.soundness.specs.Sound.{sound_tag}
 use Rattle.tag.specs.Way.{answered}
-use Rattle.series.specs.Series.{Asked, Typed, accepts}
+use Rattle.series.specs.Series.{Asked, accepts}
 use Rattle.demands.specs.Talks.{said}
 use Rattle.demands.specs.Samples.{sample, some_uid, changeable, zeros20, zeros258, calling}
 use Rattle.demands.specs.Reaching.{built, Reached}
-use Rattle.one_tap.specs.OneTap.{asks_read, Taps}
+use Rattle.one_tap.specs.OneTap.{Taps}
 use Rattle.one_tap.specs.Samples.{ask_data, ask_binary}
 use Rattle.cipher_work.specs.CipherWork.{mirrored_blocks}
 

@@ -28,7 +28,7 @@ use Rattle.series.proofs.Settled.{tap-runs}
 use Rattle.series.proofs.Fine.{sound_clauses}
 use Rattle.series.proofs.Changes.{refused_call, sound-outcome}
 use Rattle.demands.specs.Talks.{Said, heard, said, said_all}
-use Rattle.one_tap.specs.OneTap.{from_of, count_of, part_asked, Reads, text_of, Taps, OfTap, Shown, OneRead, PartsOf, OneText, OneTextOfTap, OneTextFromStart}
+use Rattle.one_tap.specs.OneTap.{from_of, count_of, part_asked, Reads, text_of, Taps, OfTap, Shown, OneRead, PartsOf, OneTextOfTap, OneTextFromStart}
 use Rattle.one_tap.specs.OneTap.{data_in, ShowsByte, Agree, TwoAgree, AnyTwoAgree, Pieces, gathered, InPieces}
 use Rattle.one_tap.proofs.Reading.{read_answer}
 

@@ -2,11 +2,10 @@
 use Rattle.std.specs.Prelude.{Bool, true, false, List, [], ◌∷◌, ◌++◌, ◌≡◌, ℕ, length, take, replicate}
 use Rattle.state.specs.declared.Tag.{Tag}
 use Rattle.state.specs.State.{filed, placed, talking, no_pending}
-use Rattle.tag.specs.Call.{outcome_of}
-use Rattle.series.specs.Series.{Asked, step, after, replies}
+use Rattle.series.specs.Series.{Asked, step, after}
 use Rattle.series.specs.Worked.{settings_of}
 use Rattle.demands.specs.Talks.{said, said_all}
-use Rattle.demands.specs.Samples.{sample, some_uid, changeable, zeros20, calling}
+use Rattle.demands.specs.Samples.{sample, some_uid, changeable, calling}
 use Rattle.one_tap.specs.OneTap.{Reads, Taps, OfTap, data_in, Pieces, gathered}
 
 -- ---- tags
