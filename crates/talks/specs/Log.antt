@@ -1,11 +1,13 @@
 -- The lines of a log, each of capital hexadecimal.
-use Rattle.std.specs.Prelude.{Bool, true, false, List, [], ◌∷◌, ◌≡◌, ℕ, suc, ◌+◌, ◌-◌, ◌/◌, ◌≤◌, min, eqb, leb, ltb, length, take, drop}
+use Rattle.std.specs.Prelude.{Result, Ok, Err, Bool, true, false, List, [], ◌∷◌, ◌≡◌, ℕ, suc, ◌+◌, ◌-◌, ◌/◌, ◌≤◌, min, eqb, leb, ltb, length, take, drop}
 use Rattle.base.specs.Decide.{pick, and, or}
 use Rattle.base.specs.Bytes.{byte_at}
 use Rattle.lines.specs.Lines.{before, seek}
 use Rattle.lines.specs.Hex.{is_hex, bytes_of}
-use Rattle.talks.specs.declared.LogLine.{LogLine}
-use Rattle.talks.specs.declared.LogLine.TheVariants.{Whole, NotCapitalHex, TooLong, Missing}
+use Rattle.lines.specs.declared.DecodeError.{DecodeError}
+use Rattle.lines.specs.declared.DecodeError.TheVariants.{NotHex, RoomTooSmall}
+use Rattle.talks.specs.declared.Unread.{Unread}
+use Rattle.talks.specs.declared.Unread.TheVariants.{NotCapitalHex, TooLong, Missing}
 use Rattle.talks.specs.declared.Field.{Field}
 
 -- neither a newline nor a carriage return
@@ -35,30 +37,27 @@ next_line s i = min (seek s i 10 + 1) (length s)
 unfoldable pub after_three : List ℕ → ℕ → ℕ
 after_three s i = next_line s (next_line s (next_line s i))
 
--- the house's numbers of what a line is: 0 for one that can be read
-unfoldable pub log_line_number : LogLine → ℕ
-log_line_number Whole = 0
-log_line_number NotCapitalHex = 1
-log_line_number TooLong = 2
-log_line_number Missing = 3
+-- why digits can't be read, as a line
+abbrev pub unread_by : DecodeError → Unread
+unread_by NotHex = NotCapitalHex
+unread_by RoomTooSmall = TooLong
 
--- what a line is, and its bytes
-unfoldable pub log_line_in : List ℕ → LogLine
-log_line_in s = pick (is_hex s) (pick (leb (length s / 2) 300) Whole TooLong) NotCapitalHex
-
-unfoldable pub bytes_in : List ℕ → List ℕ
-bytes_in s = pick (and (is_hex s) (leb (length s / 2) 300)) (bytes_of s) []
+-- the bytes of a line, or why it can't be read
+unfoldable pub field_in : List ℕ → Result (List ℕ) Unread
+field_in s = pick (is_hex s) (pick (leb (length s / 2) 300) (Ok (bytes_of s)) (Err TooLong)) (Err NotCapitalHex)
 
 -- the same at a place of a log: behind the last line it breaks off
-unfoldable pub log_line_at : List ℕ → ℕ → LogLine
-log_line_at s i = pick (ltb i (length s)) (log_line_in (line_at s i)) Missing
+unfoldable pub field_at : List ℕ → ℕ → Result (List ℕ) Unread
+field_at s i = pick (ltb i (length s)) (field_in (line_at s i)) (Err Missing)
 
-unfoldable pub bytes_at : List ℕ → ℕ → List ℕ
-bytes_at s i = pick (ltb i (length s)) (bytes_in (line_at s i)) []
+-- what a field holds
+abbrev pub read_as : Result Field Unread → Result (List ℕ) Unread
+read_as (Ok f) = Ok (take f.length f.bytes)
+read_as (Err e) = Err e
 
--- a field holds both
-pub record Reads (what : LogLine) (bytes : List ℕ) (f : Field) : Type 0 where
-  pub told : f.what ≡ what
-  pub front : take f.length f.bytes ≡ bytes
-  pub fits : f.length ≤ 300
-  pub room : length f.bytes ≡ 300
+-- the house's numbers of what a line is: 0 for one that can be read
+abbrev pub log_line_number : Result (List ℕ) Unread → ℕ
+log_line_number (Ok s) = 0
+log_line_number (Err NotCapitalHex) = 1
+log_line_number (Err TooLong) = 2
+log_line_number (Err Missing) = 3

@@ -1,11 +1,10 @@
 // One exchange: its lines read, the command played, our answer compared with the logged reply.
-ghost use Rattle.std.specs.Prelude.{true, ◌≡◌, ◌≤◌};
-ghost use Rattle.base.specs.Decide.{or};
+ghost use Rattle.std.specs.Prelude.{true, ◌≡◌, ◌≤◌, is_none, IfSome};
 ghost use Rattle.tag.specs.Call.{refusal_number};
-ghost use Rattle.talks.specs.Log.{log_line_at};
+ghost use Rattle.talks.specs.Log.{field_at};
 ghost use Rattle.talks.specs.Verdict.{another, differs, unread, broken, unplayed};
 
-use crate::{Played, log, report};
+use crate::{Field, Played, log, report};
 use state::Tag;
 use tag::Outcome;
 
@@ -71,15 +70,14 @@ fn play(
 ) -> Played {
     let mut room = [0u8; 300];
     let d = tag::call(t, command, random, &mut room);
-    let outcome = d.outcome;
-    let after = d.tag;
-    let differs = judged(rt, number, logged, outcome, &room, d.length);
+    let differs = judged(rt, number, logged, d.outcome, &room, d.length);
     Played {
         differs,
-        tag: after,
+        tag: d.tag,
     }
 }
 
+#[tactic(auto, unfolding(crate::specs::Verdict::unplayed))]
 fn unplayed(t: Tag) -> Played
     ensures { result ≡ unplayed t }
 {
@@ -89,58 +87,49 @@ fn unplayed(t: Tag) -> Played
     }
 }
 
-// Whether the line that begins at a place can't be read; then it is named.
-fn faulty_at(rt: &impl Print, text: &[u8], at: usize, line: u64) -> bool
-    ensures { result ≡ unread (log_line_at text.now at) }
+// The line that begins at a place; one that can't be read is named.
+#[tactic(auto, unfolding(crate::specs::Verdict::unread))]
+fn line_at(rt: &impl Print, text: &[u8], at: usize, line: u64) -> Option<Field>
+    ensures told { is_none result ≡ unread (field_at text.now at) }
+    ensures fits { IfSome result (λ f. f.length ≤ 300) }
 {
-    let f = log::read(text, at);
-    report::faulty(rt, line, f)
-}
-
-fn either(a: bool, b: bool) -> bool
-    ensures { result ≡ or a b }
-{
-    if a {
-        return true;
+    match log::read(text, at) {
+        Ok(field) => Some(field),
+        Err(why) => {
+            report::faulty(rt, line, why);
+            None
+        }
     }
-    b
 }
 
-// Whether a line of the exchange that begins at a place can't be read; each such line is named.
-fn broken(rt: &impl Print, text: &[u8], at: usize, number: u64) -> bool
+// The exchange that begins at a place. One with a line that can't be read differs and leaves the tag; each such line is named.
+#[tactic(auto, unfolding(crate::specs::Verdict::broken))]
+pub fn run(rt: &impl Print, t: Tag, text: &[u8], at: usize, number: u64) -> Played
     requires { (1 ≤ number) × (number ≤ 524288) }
-    ensures { result ≡ broken text.now at }
+    ensures { broken text.now at ≡ true → result ≡ unplayed t }
 {
     let second = log::next(text, at);
     let third = log::next(text, second);
     // the UID is line 1, so the reply of exchange n is line 3 n
     let middle = number * 3;
-    let first = middle - 1;
-    let last = middle + 1;
-    let command = faulty_at(rt, text, at, first);
-    let reply = faulty_at(rt, text, second, middle);
-    let random = faulty_at(rt, text, third, last);
-    either(command, either(reply, random))
-}
-
-// The exchange that begins at a place. One with a line that can't be read differs and leaves the tag.
-pub fn run(rt: &impl Print, t: Tag, text: &[u8], at: usize, number: u64) -> Played
-    requires { (1 ≤ number) × (number ≤ 524288) }
-    ensures { broken text.now at ≡ true → result ≡ unplayed t }
-{
-    if broken(rt, text, at, number) {
+    let command = line_at(rt, text, at, middle - 1);
+    let reply = line_at(rt, text, second, middle);
+    let random = line_at(rt, text, third, middle + 1);
+    let Some(asked) = command else {
         return unplayed(t);
-    }
-    let second = log::next(text, at);
-    let third = log::next(text, second);
-    let command = log::read(text, at);
-    let reply = log::read(text, second);
-    let random = log::read(text, third);
-    let asked = command.bytes;
-    let logged = reply.bytes;
-    let drawn = random.bytes;
-    let i = command.length;
-    let j = reply.length;
-    let k = random.length;
-    play(rt, t, number, &asked[..i], &logged[..j], &drawn[..k])
+    };
+    let Some(logged) = reply else {
+        return unplayed(t);
+    };
+    let Some(drawn) = random else {
+        return unplayed(t);
+    };
+    play(
+        rt,
+        t,
+        number,
+        &asked.bytes[..asked.length],
+        &logged.bytes[..logged.length],
+        &drawn.bytes[..drawn.length],
+    )
 }

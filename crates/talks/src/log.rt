@@ -1,22 +1,15 @@
 // The lines of a log. A line ends at a newline or at the end; a carriage return before that does not count.
-ghost use Rattle.std.specs.Prelude.{[], ◌≡◌};
-ghost use Rattle.talks.specs.Log.{solid, trimmed, counted, without_return, next_line, after_three, log_line_in, bytes_in, log_line_at, bytes_at, Reads};
-ghost use Rattle.talks.specs.declared.LogLine.TheVariants.{Missing};
+ghost use Rattle.std.specs.Prelude.{◌≡◌, ◌≤◌, IfOk};
+ghost use Rattle.talks.specs.Log.{solid, trimmed, counted, without_return, next_line, after_three, read_as, field_in, field_at};
 
-use crate::{Field, LogLine};
-use lines::Decoded;
+use crate::{Field, Unread};
 
 // Whether a byte is no part of a line's end.
+#[tactic(auto, unfolding(crate::specs::Log::solid))]
 fn solid(b: u8) -> bool
     ensures { result ≡ solid b }
 {
-    if b == 10 {
-        return false;
-    }
-    if b == 13 {
-        return false;
-    }
-    true
+    !matches!(b, b'\n' | b'\r')
 }
 
 // Where a text ends if blank lines at its end don't count.
@@ -24,98 +17,70 @@ pub fn last(text: &[u8]) -> usize
     ensures { result ≡ trimmed text.now }
 {
     let mut n = text.len();
-    while 0 < n {
-        if solid(text[n - 1]) {
-            return n;
-        }
+    while 0 < n && !solid(text[n - 1]) {
         n -= 1;
     }
-    0
+    n
 }
 
 // Where the next line begins, or the end.
+#[tactic(auto, unfolding(crate::specs::Log::next_line))]
 pub fn next(text: &[u8], at: usize) -> usize
     ensures { result ≡ next_line text.now at }
 {
     let end = lines::find(text, at, b'\n');
     if end < text.len() {
-        return end + 1;
+        end + 1
+    } else {
+        text.len()
     }
-    text.len()
 }
 
 // Where the line behind three begins, or the end.
+#[tactic(auto, unfolding(crate::specs::Log::after_three))]
 pub fn after(text: &[u8], at: usize) -> usize
     ensures { result ≡ after_three text.now at }
 {
-    let second = next(text, at);
-    let third = next(text, second);
-    next(text, third)
+    next(text, next(text, next(text, at)))
 }
 
 // How many bytes of a line count.
+#[tactic(auto, using(crate::proofs::Reading::counted_none), unfolding(crate::specs::Log::counted))]
 fn counted(line: &[u8]) -> usize
     ensures { result ≡ counted line.now }
 {
-    let n = line.len();
-    if n == 0 {
-        return 0;
+    match line {
+        [.., b'\r'] => line.len() - 1,
+        _ => line.len(),
     }
-    if line[n - 1] == 13 {
-        return n - 1;
-    }
-    n
 }
 
-fn of_digits(digits: &[u8]) -> Field
-    ensures { Reads (log_line_in digits.now) (bytes_in digits.now) result }
+// The bytes of a text of digits, or why there are none.
+#[tactic(auto, using(crate::proofs::Reading::digits_front), unfolding(crate::specs::Log::field_in, lines::specs::Hex::decoded, lines::specs::Hex::decoded_room))]
+fn of_digits(digits: &[u8]) -> Result<Field, Unread>
+    ensures told { read_as result ≡ field_in digits.now }
+    ensures fits { IfOk result (λ f. f.length ≤ 300) }
 {
     let mut bytes = [0u8; 300];
-    let d = lines::decode(digits, &mut bytes);
-    match d {
-        Decoded::Bytes(n) => Field {
-            what: LogLine::Whole,
-            length: n,
-            bytes,
-        },
-        Decoded::NotHex => Field {
-            what: LogLine::NotCapitalHex,
-            length: 0,
-            bytes,
-        },
-        Decoded::RoomTooSmall => Field {
-            what: LogLine::TooLong,
-            length: 0,
-            bytes,
-        },
-    }
+    let length = lines::decode(digits, &mut bytes)?;
+    Ok(Field { length, bytes })
 }
 
-fn of_line(line: &[u8]) -> Field
-    ensures { Reads (log_line_in (without_return line.now)) (bytes_in (without_return line.now)) result }
+fn of_line(line: &[u8]) -> Result<Field, Unread>
+    ensures told { read_as result ≡ field_in (without_return line.now) }
+    ensures fits { IfOk result (λ f. f.length ≤ 300) }
 {
-    let n = counted(line);
-    of_digits(&line[..n])
-}
-
-fn missing() -> Field
-    ensures { Reads Missing [] result }
-{
-    let bytes = [0u8; 300];
-    Field {
-        what: LogLine::Missing,
-        length: 0,
-        bytes,
-    }
+    of_digits(&line[..counted(line)])
 }
 
 // The line that begins at a place.
-pub fn read(text: &[u8], at: usize) -> Field
-    ensures { Reads (log_line_at text.now at) (bytes_at text.now at) result }
+pub fn read(text: &[u8], at: usize) -> Result<Field, Unread>
+    ensures told { read_as result ≡ field_at text.now at }
+    ensures fits { IfOk result (λ f. f.length ≤ 300) }
 {
-    if at < text.len() {
-        let end = lines::find(text, at, b'\n');
-        return of_line(&text[at..end]);
+    if text.len() <= at {
+        return Err(Unread::Missing);
     }
-    missing()
+    let end = lines::find(text, at, b'\n');
+    of_line(&text[at..end])
 }

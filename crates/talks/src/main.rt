@@ -8,24 +8,33 @@ mod log;
 mod report;
 
 ghost use Rattle.std.specs.Prelude.{◌≡◌, ◌≤◌, length};
-ghost use Rattle.base.specs.Decide.{pick};
+ghost use Rattle.talks.specs.Log.{unread_by};
 
-use delivery::Made;
+use lines::DecodeError;
 use state::Tag;
 
-// What a line of digits is.
-#[derive(Clone, Copy)]
-pub enum LogLine {
-    Whole,
+// Why a line can't be read.
+#[derive(Clone, Copy, Debug, PartialEq, Eq)]
+pub enum Unread {
     NotCapitalHex,
     TooLong,
     Missing,
 }
 
-// What a line is, and its bytes at the front of a room; none where it is not whole.
+impl From<DecodeError> for Unread {
+    ghost from_gives = { λ e why. why ≡ unread_by e };
+
+    fn from(e: DecodeError) -> Unread {
+        match e {
+            DecodeError::NotHex => Unread::NotCapitalHex,
+            DecodeError::RoomTooSmall => Unread::TooLong,
+        }
+    }
+}
+
+// The bytes of a line, at the front of a room.
 #[derive(Clone, Copy)]
 pub struct Field {
-    pub what: LogLine,
     pub length: usize,
     pub bytes: [u8; 300],
 }
@@ -37,32 +46,20 @@ pub struct Played {
     pub tag: Tag,
 }
 
-// 1 for an exchange that differs.
-fn one_if(differs: bool) -> u64
-    ensures is { result ≡ pick differs 1 0 }
-    ensures small { result ≤ 1 }
-{
-    if differs {
-        return 1;
-    }
-    0
-}
-
 // Every exchange of a log, from a tag on.
 fn play_all(rt: &impl Print, text: &[u8], fresh: Tag)
     requires { length text.now ≤ 524288 }
 {
     let last = log::last(text);
     let mut at = log::next(text, 0);
-    let mut t = fresh;
+    let mut tag = fresh;
     let mut number: u64 = 0;
     let mut differ: u64 = 0;
     while at < last {
         number += 1;
-        let p = exchange::run(rt, t, text, at, number);
-        let after = p.tag;
-        t = after;
-        differ += one_if(p.differs);
+        let played = exchange::run(rt, tag, text, at, number);
+        tag = played.tag;
+        differ += u64::from(played.differs);
         at = log::after(text, at);
     }
     report::totals(rt, number, differ);
@@ -72,19 +69,17 @@ fn play_all(rt: &impl Print, text: &[u8], fresh: Tag)
 fn begin(rt: &impl Print, text: &[u8])
     requires { length text.now ≤ 524288 }
 {
-    let uid = log::read(text, 0);
-    if report::faulty(rt, 1, uid) {
-        report::none_played(rt);
-        return;
-    }
-    let bytes = uid.bytes;
-    let n = uid.length;
-    let birth = tag::fresh(&bytes[..n]);
-    let made = birth.made;
-    let fresh = birth.tag;
-    match made {
-        Made::Fresh => play_all(rt, text, fresh),
-        Made::WrongUid => report::no_uid(rt),
+    match log::read(text, 0) {
+        Ok(uid) => {
+            match tag::fresh(&uid.bytes[..uid.length]) {
+                Ok(fresh) => play_all(rt, text, fresh),
+                Err(_) => report::no_uid(rt),
+            }
+        }
+        Err(why) => {
+            report::faulty(rt, 1, why);
+            report::none_played(rt);
+        }
     }
 }
 

@@ -1,8 +1,5 @@
 // What the program prints.
-ghost use Rattle.std.specs.Prelude.{true, ◌≡◌};
-ghost use Rattle.talks.specs.Verdict.{unread};
-
-use crate::{Field, LogLine};
+use crate::Unread;
 
 // The digits of n bytes, at the front of a room.
 fn show_front(rt: &impl Print, digits: &[u8], n: usize) {
@@ -53,23 +50,12 @@ fn fault(rt: &impl Print, line: u64, what: &[u8]) {
     let _ = rt.write_all(b"\n");
 }
 
-fn named(rt: &impl Print, line: u64, what: &[u8]) -> bool
-    ensures { result ≡ true }
-{
-    fault(rt, line, what);
-    true
-}
-
-// Whether a line can't be read; then it is named.
-pub fn faulty(rt: &impl Print, line: u64, f: Field) -> bool
-    ensures { result ≡ unread f.what }
-{
-    let what = f.what;
-    match what {
-        LogLine::Whole => false,
-        LogLine::NotCapitalHex => named(rt, line, b"not capital hexadecimal"),
-        LogLine::TooLong => named(rt, line, b"longer than 300 bytes"),
-        LogLine::Missing => named(rt, line, b"the log breaks off"),
+// Names a line that can't be read.
+pub fn faulty(rt: &impl Print, line: u64, why: Unread) {
+    match why {
+        Unread::NotCapitalHex => fault(rt, line, b"not capital hexadecimal"),
+        Unread::TooLong => fault(rt, line, b"longer than 300 bytes"),
+        Unread::Missing => fault(rt, line, b"the log breaks off"),
     }
 }
 

@@ -6,11 +6,13 @@ use Prim.Native.Nat.{ℕ}
 use lib.Dec.{ltb, eqb}
 use lib.ListN.{length, take, replicate}
 use borrow.Author.Tests.{eqb-true}
+use Rattle.std.specs.Prelude.{Result, Ok, Err}
 use Rattle.base.specs.Decide.{pick}
 use Rattle.state.specs.declared.Tag.{Tag}
 use Rattle.first_lines.specs.Said.{said}
 use Rattle.plans.specs.declared.Meaning.{Meaning}
-use Rattle.plans.specs.declared.Meaning.TheVariants.{Blank, Drawn, Given, Bad}
+use Rattle.plans.specs.declared.Meaning.TheVariants.{Blank, Drawn, Given}
+use Rattle.plans.specs.declared.Reason.{Reason}
 use Rattle.tag.specs.Way.{answered, noted}
 use Rattle.telling.specs.declared.Why.{Why}
 use Rattle.tag.specs.Call.{outcome_of, by_outcome, room_by}
@@ -101,10 +103,10 @@ drawn_carried : (n : ℕ) (t : Tag) (c expected drawn : List ℕ) → Draws t (t
 unfolding drawn_by
 drawn_carried n t c expected drawn = by_twenty (eqb (length drawn) 20) t (take n c) expected drawn refl
 
-pub acted_carried : (m : Meaning) (t : Tag) (c random expected drawn : List ℕ)
+pub acted_carried : (m : Result Meaning Reason) (t : Tag) (c random expected drawn : List ℕ)
     → Carried m t c random expected (acted_by m t c random expected drawn).turn
 unfolding Carried acted_by
-acted_carried Blank t c random expected drawn = silent-turn (stays t false false)
-acted_carried (Bad e) t c random expected drawn = silent-turn (stays t true false)
-acted_carried (Drawn n) t c random expected drawn = drawn_carried n t c expected drawn
-acted_carried (Given n) t c random expected drawn = played-turn t (take n c) random expected
+acted_carried (Ok Blank) t c random expected drawn = silent-turn (stays t false false)
+acted_carried (Err e) t c random expected drawn = silent-turn (stays t true false)
+acted_carried (Ok (Drawn n)) t c random expected drawn = drawn_carried n t c expected drawn
+acted_carried (Ok (Given n)) t c random expected drawn = played-turn t (take n c) random expected

@@ -1,21 +1,22 @@
 -- A line's turn as it is computed: with the reply, and by the machine's random bytes.
-use Rattle.std.specs.Prelude.{true, false, List, ℕ, eqb, length, take, replicate}
+use Rattle.std.specs.Prelude.{true, false, Option, Result, Ok, Err, List, ℕ, eqb, length, take, replicate}
 use Rattle.base.specs.Decide.{pick}
 use Rattle.state.specs.declared.Tag.{Tag}
 use Rattle.tag.specs.Way.{answered, noted}
 use Rattle.tag.specs.Call.{outcome_of, by_outcome, room_by}
 use Rattle.tag.specs.declared.Called.{Called}
-use Rattle.access.specs.declared.Noted.{Noted}
+use Rattle.access.specs.declared.Grant.{Grant}
 use Rattle.access.specs.Marks.{marks_of}
 use Rattle.telling.specs.declared.Why.{Why}
 use Rattle.plans.specs.declared.Meaning.{Meaning}
-use Rattle.plans.specs.declared.Meaning.TheVariants.{Blank, Drawn, Given, Bad}
+use Rattle.plans.specs.declared.Meaning.TheVariants.{Blank, Drawn, Given}
+use Rattle.plans.specs.declared.Reason.{Reason}
 use Rattle.turns.specs.declared.Turn.{Turn}
 use Rattle.turns.specs.declared.Acted.{Acted}
 use Rattle.turns.specs.Steps.{told_by, stays}
 
 -- what a call notes, and the key of its session
-unfoldable pub why_with : Noted → ℕ → Why
+unfoldable pub why_with : Option Grant → ℕ → Why
 why_with n key = record { how = (marks_of n).how; right = (marks_of n).right; key = key }
 
 -- by what the call answers and leaves in the room
@@ -50,8 +51,8 @@ unfoldable pub drawn_by : ℕ → Tag → List ℕ → List ℕ → List ℕ →
 drawn_by n t c expected drawn = pick (eqb (length drawn) 20) (played_as t (take n c) drawn expected) (silent (stays t true true))
 
 -- a line that is blank or bad leaves the tag; any other is a command, the first n bytes of c
-unfoldable pub acted_by : Meaning → Tag → List ℕ → List ℕ → List ℕ → List ℕ → Acted
-acted_by Blank t c random expected drawn = silent (stays t false false)
-acted_by (Bad e) t c random expected drawn = silent (stays t true false)
-acted_by (Drawn n) t c random expected drawn = drawn_by n t c expected drawn
-acted_by (Given n) t c random expected drawn = played_as t (take n c) random expected
+unfoldable pub acted_by : Result Meaning Reason → Tag → List ℕ → List ℕ → List ℕ → List ℕ → Acted
+acted_by (Ok Blank) t c random expected drawn = silent (stays t false false)
+acted_by (Err e) t c random expected drawn = silent (stays t true false)
+acted_by (Ok (Drawn n)) t c random expected drawn = drawn_by n t c expected drawn
+acted_by (Ok (Given n)) t c random expected drawn = played_as t (take n c) random expected

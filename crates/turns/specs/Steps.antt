@@ -1,5 +1,5 @@
 -- What a line does to the tag, and what is said of it.
-use Rattle.std.specs.Prelude.{Bool, true, false, List, ◌≡◌, ℕ, ltb, length, take, replicate}
+use Rattle.std.specs.Prelude.{Bool, true, false, Result, Ok, Err, List, ◌≡◌, ℕ, ltb, length, take, replicate}
 use Rattle.base.specs.Decide.{pick}
 use Rattle.state.specs.declared.Tag.{Tag}
 use Rattle.tag.specs.Way.{answered, noted}
@@ -8,7 +8,8 @@ use Rattle.first_lines.specs.Said.{said}
 use Rattle.plans.specs.Plan.{line_of, line_command, line_random, line_expected}
 use Rattle.plans.specs.declared.Line.{Line}
 use Rattle.plans.specs.declared.Meaning.{Meaning}
-use Rattle.plans.specs.declared.Meaning.TheVariants.{Blank, Drawn, Given, Bad}
+use Rattle.plans.specs.declared.Meaning.TheVariants.{Blank, Drawn, Given}
+use Rattle.plans.specs.declared.Reason.{Reason}
 use Rattle.verdict.specs.Replies.{status_in, refusing, differing}
 use Rattle.tallies.specs.declared.Went.{Went}
 use Rattle.turns.specs.declared.Turn.{Turn}
@@ -73,17 +74,25 @@ unfoldable pub Draws : Tag → List ℕ → List ℕ → Turn → Type 0
 Draws t c expected r = pick r.went.undrawn (r ≡ stays t true true) (Drew t c expected r)
 
 -- a line that is blank or bad leaves the tag; any other is a command, the first n bytes of c
-unfoldable pub Carried : Meaning → Tag → List ℕ → List ℕ → List ℕ → Turn → Type 0
-Carried Blank t c random expected r = r ≡ stays t false false
-Carried (Bad e) t c random expected r = r ≡ stays t true false
-Carried (Drawn n) t c random expected r = Draws t (take n c) expected r
-Carried (Given n) t c random expected r = r ≡ played t (take n c) random expected
+unfoldable pub Carried : Result Meaning Reason → Tag → List ℕ → List ℕ → List ℕ → Turn → Type 0
+Carried (Ok Blank) t c random expected r = r ≡ stays t false false
+Carried (Err e) t c random expected r = r ≡ stays t true false
+Carried (Ok (Drawn n)) t c random expected r = Draws t (take n c) expected r
+Carried (Ok (Given n)) t c random expected r = r ≡ played t (take n c) random expected
 
 -- a line that was read, with what it left in the three rooms
-abbrev pub CarriedLine : Line → Tag → List ℕ → List ℕ → List ℕ → Turn → Type 0
-CarriedLine l t c random room r = Carried l.meaning t c random (take l.expected room) r
+abbrev pub meaning_in : Result Line Reason → Result Meaning Reason
+meaning_in (Ok l) = Ok l.meaning
+meaning_in (Err e) = Err e
 
-abbrev pub line_in : List ℕ → Line
+abbrev pub expected_in : Result Line Reason → ℕ
+expected_in (Ok l) = l.expected
+expected_in (Err e) = 0
+
+abbrev pub CarriedLine : Result Line Reason → Tag → List ℕ → List ℕ → List ℕ → Turn → Type 0
+CarriedLine l t c random room r = Carried (meaning_in l) t c random (take (expected_in l) room) r
+
+abbrev pub line_in : List ℕ → Result Line Reason
 line_in s = line_of s (replicate 512 0) (replicate 20 0) (replicate 258 0)
 
 unfoldable pub Stepped : Tag → List ℕ → Turn → Type 0

@@ -2,13 +2,13 @@
 #![tactic(auto)]
 
 ghost use Rattle.std.specs.Prelude.{◌≡◌, ◌≤◌, take};
-ghost use Rattle.turns.specs.Steps.{went_by, stays};
+ghost use Rattle.turns.specs.Steps.{went_by, stays, meaning_in, expected_in};
 ghost use Rattle.turns.specs.Acts.{why_with, played_as, silent, drawn_by, acted_by};
 ghost use Rattle.turns.specs.Lines.{told_of, line_acted, line_told};
 ghost use Rattle.forms.specs.Rooms.{Lays};
 
-use access::Noted;
-use plans::Meaning;
+use access::Grant;
+use plans::{Line, Meaning, Reason};
 use state::Tag;
 use tallies::Went;
 use telling::Why;
@@ -37,25 +37,24 @@ pub struct Taken {
 }
 
 // What is said of a command that was played, by its reply, what was expected of it and the AES blocks that it took.
+#[tactic(auto, unfolding(crate::specs::Steps::went_by))]
 fn told(reply: &[u8], expected: &[u8], blocks: u64) -> Went
     ensures { result ≡ went_by reply.now expected.now blocks }
 {
-    let refused = verdict::refuses(verdict::status_of(reply));
-    let unmet = verdict::differs(expected, reply);
-    let expecting = 0 < expected.len();
     Went {
         played: true,
-        refused,
+        refused: verdict::refuses(verdict::status_of(reply)),
         skipped: false,
         undrawn: false,
-        expecting,
-        unmet,
+        expecting: 0 < expected.len(),
+        unmet: verdict::differs(expected, reply),
         blocks,
     }
 }
 
 // What a call notes, and the key of its session.
-fn noted(n: Noted, key: u8) -> Why
+#[tactic(auto, unfolding(crate::specs::Acts::why_with))]
+fn noted(n: Option<Grant>, key: u8) -> Why
     ensures { result ≡ why_with n key }
 {
     let m = access::marked(n);
@@ -73,15 +72,11 @@ fn play(tag: Tag, command: &[u8], random: &[u8], expected: &[u8]) -> Acted
 {
     let mut room = [0u8; 258];
     let d = tag::call(tag, command, random, &mut room);
-    let t = d.tag;
-    let length = d.length;
-    let went = told(&room[..length], expected, d.cost as u64);
-    let turn = Turn { tag: t, went };
-    let n = d.noted;
-    let why = noted(n, tag.live.key);
+    let went = told(&room[..d.length], expected, d.cost as u64);
+    let why = noted(d.noted, tag.live.key);
     Acted {
-        turn,
-        length,
+        turn: Turn { tag: d.tag, went },
+        length: d.length,
         room,
         why,
     }
@@ -92,13 +87,11 @@ fn front(tag: Tag, n: usize, c: &[u8], x: &[u8], e: &[u8]) -> Acted
     ensures told { result ≡ played_as tag (take n c.now) x.now e.now }
     ensures short { result.length ≤ 258 }
 {
-    if n < c.len() {
-        return play(tag, &c[..n], x, e);
-    }
-    play(tag, c, x, e)
+    play(tag, c.get(..n).unwrap_or(c), x, e)
 }
 
 // A line that does nothing: it is blank, or skipped, or skipped since the machine gave no random bytes.
+#[tactic(auto, unfolding(crate::specs::Acts::silent, crate::specs::Steps::stays))]
 fn still(tag: Tag, skipped: bool, undrawn: bool) -> Acted
     ensures told { result ≡ silent (stays tag skipped undrawn) }
     ensures short { result.length ≤ 258 }
@@ -112,43 +105,44 @@ fn still(tag: Tag, skipped: bool, undrawn: bool) -> Acted
         unmet: false,
         blocks: 0,
     };
-    let turn = Turn { tag, went };
-    let room = [0u8; 258];
-    let why = Why {
-        how: 0,
-        right: 0,
-        key: 0,
-    };
     Acted {
-        turn,
+        turn: Turn { tag, went },
         length: 0,
-        room,
-        why,
+        room: [0u8; 258],
+        why: Why {
+            how: 0,
+            right: 0,
+            key: 0,
+        },
     }
 }
 
 // A command without random bytes of its own takes the machine's, where they are 20; else the tag is left as it is.
+#[tactic(auto, unfolding(crate::specs::Acts::drawn_by))]
 fn drawn(tag: Tag, n: usize, c: &[u8], d: &[u8], e: &[u8]) -> Acted
     ensures told { result ≡ drawn_by n tag c.now e.now d.now }
     ensures short { result.length ≤ 258 }
 {
     if d.len() == 20 {
-        return front(tag, n, c, d, e);
+        front(tag, n, c, d, e)
+    } else {
+        still(tag, true, true)
     }
-    still(tag, true, true)
 }
 
 // What a line asks for is done: the command is the first bytes of c, x are the random bytes that it brings, e is what it expects, and d
 // are the machine's random bytes.
-fn carry_out(tag: Tag, m: Meaning, c: &[u8], x: &[u8], e: &[u8], d: &[u8]) -> Acted
-    ensures told { result ≡ acted_by m tag c.now x.now e.now d.now }
+fn carry_out(tag: Tag, meaning: Result<Meaning, Reason>, c: &[u8], x: &[u8], e: &[u8], d: &[u8]) -> Acted
+    ensures told { result ≡ acted_by meaning tag c.now x.now e.now d.now }
     ensures short { result.length ≤ 258 }
 {
-    match m {
-        Meaning::Blank => still(tag, false, false),
-        Meaning::Bad(_) => still(tag, true, false),
-        Meaning::Drawn(n) => drawn(tag, n, c, d, e),
-        Meaning::Given(n) => front(tag, n, c, x, e),
+    match meaning {
+        Err(_) => still(tag, true, false),
+        Ok(asked) => match asked {
+            Meaning::Blank => still(tag, false, false),
+            Meaning::Drawn(n) => drawn(tag, n, c, d, e),
+            Meaning::Given(n) => front(tag, n, c, x, e),
+        },
     }
 }
 
@@ -157,29 +151,26 @@ fn carry_out(tag: Tag, m: Meaning, c: &[u8], x: &[u8], e: &[u8], d: &[u8]) -> Ac
 fn turned(
     tag: Tag,
     number: u64,
-    m: Meaning,
+    meaning: Result<Meaning, Reason>,
     c: &[u8],
     x: &[u8],
     e: &[u8],
     d: &[u8],
     room: &mut [u8],
 ) -> Taken
-    ensures turn { result.turn ≡ (acted_by m tag c.now x.now e.now d.now).turn }
-    ensures text { Lays (told_of number m c.now e.now
-        (acted_by m tag c.now x.now e.now d.now)) 0 room.old result.length room.new }
+    ensures turn { result.turn ≡ (acted_by meaning tag c.now x.now e.now d.now).turn }
+    ensures text { Lays (told_of number meaning c.now e.now
+        (acted_by meaning tag c.now x.now e.now d.now)) 0 room.old result.length room.new }
 {
-    let a = carry_out(tag, m, c, x, e, d);
+    let a = carry_out(tag, meaning, c, x, e, d);
     let turn = a.turn;
-    let n = a.length;
-    let reply = a.room;
-    let why = a.why;
     let went = turn.went;
     let length = telling::line_text(
         number,
-        m,
+        meaning,
         c,
-        &reply[..n],
-        why,
+        &a.room[..a.length],
+        a.why,
         went.blocks,
         e,
         went.undrawn,
@@ -187,6 +178,23 @@ fn turned(
         room,
     );
     Taken { turn, length }
+}
+
+// What a line that was read asks for, and how many bytes it expects.
+fn asked(line: Result<Line, Reason>) -> Result<Meaning, Reason>
+    ensures { result ≡ meaning_in line }
+{
+    let line = line?;
+    Ok(line.meaning)
+}
+
+fn awaited(line: Result<Line, Reason>) -> usize
+    ensures { result ≡ expected_in line }
+{
+    match line {
+        Ok(line) => line.expected,
+        Err(_) => 0,
+    }
 }
 
 // The line with this number, by the machine's random bytes: 20, or any other number of them where it gives none.
@@ -197,11 +205,7 @@ pub fn take_turn(tag: Tag, number: u64, line: &[u8], d: &[u8], room: &mut [u8]) 
     let mut c = [0u8; 512];
     let mut x = [0u8; 20];
     let mut w = [0u8; 258];
-    let l = plans::line_meaning(line, &mut c, &mut x, &mut w);
-    let m = l.meaning;
-    let n = l.expected;
-    if n < 258 {
-        return turned(tag, number, m, &c, &x, &w[..n], d, room);
-    }
-    turned(tag, number, m, &c, &x, &w, d, room)
+    let read = plans::line_meaning(line, &mut c, &mut x, &mut w);
+    let e = w.get(..awaited(read)).unwrap_or(&w);
+    turned(tag, number, asked(read), &c, &x, e, d, room)
 }

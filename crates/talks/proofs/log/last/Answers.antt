@@ -1,5 +1,4 @@
--- `talks::log::last` meets its contract: back from the end to a byte of a line.
-use mathlib.Core.Path.{sym, ap, ◌∙◌}
+use mathlib.Core.Path.{◌≡◌, sym, ap, ◌∙◌}
 use native.Mathlib.Omega.{arith}
 use lib.ListN.{length}
 use lib.Seq.{take_all}
@@ -10,20 +9,20 @@ use Rattle.talks.proofs.log.last.Goals as goal
 pub loop-n-init : goal.loop-n-init
 loop-n-init c = (omega arith, ap trimmed (take_all (length c.args.text.now) c.args.text.now (omega arith)))
 
-pub solid-requires : goal.solid-requires
-solid-requires c = tt
-
-pub returns-then-solid : goal.returns-then-solid
-returns-then-solid c =
-    let s = c.args.text.now in
-    let i = c.loop-n in
-    sym (last-solid s i.n c.loop-n-test.true i.invariant.0 (sym c.solid.ensures ∙ c.if-solid.true)) ∙ i.invariant.1
-
 pub loop-n-preserved : goal.loop-n-preserved
 loop-n-preserved c =
     let s = c.args.text.now in
     let i = c.loop-n in
-    (omega arith, sym (last-blank s i.n c.loop-n-test.true i.invariant.0 (sym c.solid.ensures ∙ c.if-solid.false)) ∙ i.invariant.1)
+    (omega arith, sym (last-blank s i.n c.loop-n-test.true i.invariant.0 (sym c.solid.ensures ∙ c.if-not-solid.true)) ∙ i.invariant.1)
 
-pub returns : goal.returns
-returns c = sym (last_none c.args.text.now c.loop-n.n c.loop-n-test.false) ∙ c.loop-n.invariant.1
+pub returns-else-not-solid : goal.returns-else-not-solid
+returns-else-not-solid c =
+    let s = c.args.text.now in
+    let i = c.loop-n in
+    sym (last-solid s i.n c.loop-n-test.true i.invariant.0 (sym c.solid.ensures ∙ c.if-not-solid.false)) ∙ i.invariant.1
+
+pub returns-after-loop-n : goal.returns-after-loop-n
+returns-after-loop-n c =
+    let i = c.loop-n in
+    let z : i.n ≡ 0 = omega arith in
+    z ∙ sym (last_none c.args.text.now i.n c.loop-n-test.false) ∙ i.invariant.1
