@@ -1,6 +1,6 @@
 -- The lines of a log, each of capital hexadecimal.
-use Rattle.std.specs.Prelude.{Result, Ok, Err, Bool, true, false, List, [], ◌∷◌, ◌≡◌, ℕ, suc, ◌+◌, ◌-◌, ◌/◌, ◌≤◌, min, eqb, leb, ltb, length, take, drop}
-use Rattle.base.specs.Decide.{pick, and, or}
+use Rattle.std.specs.Prelude.{Result, Ok, Err, Bool, true, false, List, [], ◌∷◌, ℕ, suc, ◌+◌, ◌-◌, ◌/◌, min, eqb, leb, ltb, length, take, drop}
+use Rattle.base.specs.Decide.{pick, or}
 use Rattle.base.specs.Bytes.{byte_at}
 use Rattle.lines.specs.Lines.{before, seek}
 use Rattle.lines.specs.Hex.{is_hex, bytes_of}

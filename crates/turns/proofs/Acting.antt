@@ -9,7 +9,6 @@ use borrow.Author.Tests.{eqb-true}
 use Rattle.std.specs.Prelude.{Result, Ok, Err}
 use Rattle.base.specs.Decide.{pick}
 use Rattle.state.specs.declared.Tag.{Tag}
-use Rattle.first_lines.specs.Said.{said}
 use Rattle.plans.specs.declared.Meaning.{Meaning}
 use Rattle.plans.specs.declared.Meaning.TheVariants.{Blank, Drawn, Given}
 use Rattle.plans.specs.declared.Reason.{Reason}

@@ -132,7 +132,14 @@ fn drawn(tag: Tag, n: usize, c: &[u8], d: &[u8], e: &[u8]) -> Acted
 
 // What a line asks for is done: the command is the first bytes of c, x are the random bytes that it brings, e is what it expects, and d
 // are the machine's random bytes.
-fn carry_out(tag: Tag, meaning: Result<Meaning, Reason>, c: &[u8], x: &[u8], e: &[u8], d: &[u8]) -> Acted
+fn carry_out(
+    tag: Tag,
+    meaning: Result<Meaning, Reason>,
+    c: &[u8],
+    x: &[u8],
+    e: &[u8],
+    d: &[u8],
+) -> Acted
     ensures told { result ≡ acted_by meaning tag c.now x.now e.now d.now }
     ensures short { result.length ≤ 258 }
 {
