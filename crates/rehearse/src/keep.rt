@@ -1,5 +1,5 @@
 // A tag that is kept between runs: its image (docs/IMAGE.md) in a file.
-ghost use Rattle.std.specs.Prelude.{◌≡◌, IfOk};
+ghost use Rattle.std.specs.Prelude.{◌≡◌, IfOk, IfSome};
 ghost use Rattle.reading.specs.Counts.{IsPrefixLen};
 
 use state::Tag;
@@ -83,10 +83,7 @@ fn linked(rt: &impl Files, path: &[u8]) -> io::Result<bool> {
 
 // Whether a path is a symbolic link.
 fn is_link(rt: &impl Files, path: &[u8]) -> bool {
-    match linked(rt, path) {
-        Ok(l) => l,
-        Err(_) => false,
-    }
+    linked(rt, path).unwrap_or(false)
 }
 
 // What a symbolic link says, at the front of the room, as much as it takes, and its length.
@@ -94,61 +91,72 @@ fn read_link<R: Files + Alloc>(rt: &R, path: &[u8], room: &mut [u8]) -> io::Resu
     ensures { IfOk result (λ n. IsPrefixLen n room.new) }
 {
     let to = fs::read_link(rt, text_of(path)?)?;
-    Ok(forms::append(to.as_str().as_bytes(), room, 0))
+    Ok(forms::lay(to.as_str().as_bytes(), room))
 }
 
-// A path that is no link, at the front of the room, and its length; 0 for a link.
-fn unlinked(rt: &impl Files, path: &[u8], room: &mut [u8]) -> usize
-    ensures { IsPrefixLen result room.new }
+// A path that is no link, at the front of the room, and its length.
+fn unlinked(rt: &impl Files, path: &[u8], room: &mut [u8]) -> Option<usize>
+    ensures { IfSome result (λ n. IsPrefixLen n room.new) }
 {
     if is_link(rt, path) {
-        return 0;
+        return None;
     }
-    forms::append(path, room, 0)
+    Some(forms::lay(path, room))
 }
 
-// The name of the open file that a path leads to, links followed, at the front of the room, and its length; 0 where the machine doesn't
-// tell. A name that is no text can't be opened again, but a path that is no link is name enough.
-fn name_of<R: Files + Alloc>(rt: &R, fd: i32, path: &[u8], room: &mut [u8]) -> usize
-    ensures { IsPrefixLen result room.new }
+// The name of the open file that a path leads to, links followed, at the front of the room, and its length, where the machine tells it.
+// A name that is no text can't be opened again, but a path that is no link is name enough.
+fn name_of<R: Files + Alloc>(rt: &R, fd: i32, path: &[u8], room: &mut [u8]) -> Option<usize>
+    ensures { IfSome result (λ n. IsPrefixLen n room.new) }
 {
     if fd < 0 {
-        return 0;
+        return None;
     }
     let mut p = [0u8; 4096];
     let number = fd as u64;
-    let n = forms::append_form(b"/proc/self/fd/#", &[number], &[true], &mut p, 0);
+    let n = forms::lay_form(b"/proc/self/fd/#", &[number], &[true], &mut p);
     match read_link(rt, &p[..n], room) {
-        Ok(m) => m,
+        Ok(m) => Some(m),
         Err(e) => {
             if e.kind() == ErrorKind::InvalidFilename {
                 return unlinked(rt, path, room);
             }
-            0
+            None
         }
     }
 }
 
-// A file that can't be opened: its name where there is none yet, else 0, and why is said.
-fn missing(rt: &impl Files, err: &impl Print, path: &[u8], e: Error, room: &mut [u8]) -> usize
-    ensures { IsPrefixLen result room.new }
+// A file that can't be opened: its name where there is none yet, else why is said.
+fn missing(
+    rt: &impl Files,
+    err: &impl Print,
+    path: &[u8],
+    e: Error,
+    room: &mut [u8],
+) -> Option<usize>
+    ensures { IfSome result (λ n. IsPrefixLen n room.new) }
 {
     if e.kind() != ErrorKind::NotFound {
         fail(err, path, e, b"nothing was rehearsed");
-        return 0;
+        return None;
     }
     if is_link(rt, path) {
         refuse(err, path, b"it is a link to a file that is not there");
-        return 0;
+        return None;
     }
-    forms::append(path, room, 0)
+    Some(forms::lay(path, room))
 }
 
-// The name of the file that a path leads to, links followed, at the front of the room; 0 where there is none, and why is said.
-pub fn target<R: Files + Alloc>(rt: &R, err: &impl Print, path: &[u8], room: &mut [u8]) -> usize
+// The name of the file that a path leads to, links followed, at the front of the room; where there is none, why is said.
+pub fn target<R: Files + Alloc>(
+    rt: &R,
+    err: &impl Print,
+    path: &[u8],
+    room: &mut [u8],
+) -> Option<usize>
 where
     R::File: AsRawFd,
-    ensures { IsPrefixLen result room.new }
+    ensures { IfSome result (λ n. IsPrefixLen n room.new) }
 {
     let file = match opened(rt, path) {
         Ok(file) => file,
@@ -156,8 +164,9 @@ where
     };
     let n = name_of(rt, file.as_raw_fd(), path, room);
     drop(file);
-    if n == 0 {
+    if n.unwrap_or(0) == 0 {
         refuse(err, path, b"/proc/self/fd does not tell its name");
+        return None;
     }
     n
 }
@@ -244,7 +253,8 @@ pub fn store<R: Files>(
     tag: Tag,
 ) {
     let mut s = [0u8; 684];
-    storing::to_image(tag, &mut s);
+    // the room has the length of an image
+    let _ = storing::to_image(tag, &mut s);
     match written(&mut file, &s) {
         Ok(()) => {
             drop(file);

@@ -3,11 +3,11 @@
 // --image FILE the tag is the one whose image FILE holds, and FILE holds its image then; where there is no FILE, it is made.
 #![tactic(auto)]
 
-ghost use Rattle.std.specs.Prelude.{◌≤◌};
+ghost use Rattle.std.specs.Prelude.{◌≤◌, IfSome};
 ghost use Rattle.reading.specs.Counts.{IsPrefixLen};
 
-use arguments::Asked;
-use keeping::{Begun, Start};
+use arguments::{Asked, BadArguments};
+use keeping::NoStart;
 use state::Tag;
 use std::env::FillError;
 use std::io::{ErrorKind, Read};
@@ -15,21 +15,14 @@ use std::os::fd::AsRawFd;
 use std::random::RandomSource;
 use std::rt::{Env, Files};
 use tallies::Tally;
+use walk::Rehearsal;
 
 mod keep;
 mod show;
 mod walk;
 
-// A run: whether it took place, the tag behind it, and how it went.
-#[derive(Clone, Copy)]
-struct Ran {
-    ready: bool,
-    tag: Tag,
-    tally: Tally,
-}
-
 // The tag of an open file. A byte more than an image has is read too, to see one that is too long.
-fn resumed(mut file: impl Read + Drop, uid: &[u8; 7]) -> Begun {
+fn resumed(mut file: impl Read + Drop, uid: &[u8; 7]) -> Result<Tag, NoStart> {
     let mut s = [0u8; 685];
     let n = reading::read_full(&mut file, &mut s);
     drop(file);
@@ -37,64 +30,47 @@ fn resumed(mut file: impl Read + Drop, uid: &[u8; 7]) -> Begun {
 }
 
 // The tag of the file, or a fresh one where there is no file or none is named.
-fn begin(rt: &impl Files, err: &impl Print, path: &[u8], uid: &[u8; 7]) -> Begun {
-    let b = keeping::anew(uid);
-    if path.len() == 0 {
-        return b;
+fn begin(rt: &impl Files, err: &impl Print, path: &[u8], uid: &[u8; 7]) -> Result<Tag, NoStart> {
+    let fresh = keeping::anew(uid);
+    if path.is_empty() {
+        return fresh;
     }
     match keep::opened(rt, path) {
         Ok(file) => resumed(file, uid),
         Err(e) => {
             if e.kind() == ErrorKind::NotFound {
-                return b;
+                return fresh;
             }
             keep::fail(err, path, e, b"nothing was rehearsed");
-            let tag = b.tag;
-            Begun {
-                start: Start::Unread,
-                tag,
-            }
+            Err(NoStart::Unread)
         }
     }
 }
 
-// Says why nothing is rehearsed with the tag of a file.
-fn refused(err: &impl Print, path: &[u8], s: Start) {
-    match s {
-        Start::NotABit => keep::refuse(err, path, b"a Boolean in it is neither 0 nor 1"),
-        Start::Unsound => keep::refuse(err, path, b"its state is not sound"),
-        Start::OtherUid => keep::refuse(err, path, b"the plan's UID is not its tag's"),
-        _ => {}
-    }
-}
-
-// Says why nothing is rehearsed.
-fn complain(rt: &impl Print, err: &impl Print, path: &[u8], number: u64, s: Start) {
-    match s {
-        Start::OtherLength => keep::refuse(err, path, b"it can't be read as an image of 684 bytes"),
-        Start::EarlierVersion => keep::refuse(
+// Says why nothing is rehearsed; of a file that can't be read it is said already.
+fn complain(rt: &impl Print, err: &impl Print, path: &[u8], number: u64, why: NoStart) {
+    match why {
+        NoStart::OtherLength => keep::refuse(
+            err,
+            path,
+            b"it can't be read as an image of 684 bytes",
+        ),
+        NoStart::EarlierVersion => keep::refuse(
             err,
             path,
             b"this image is of an earlier version; docs/IMAGE.md says what to do with it",
         ),
-        Start::OtherVersion => keep::refuse(err, path, b"its version is not 2"),
-        Start::NoUid => show::tell(
+        NoStart::OtherVersion => keep::refuse(err, path, b"its version is not 2"),
+        NoStart::NotABit => keep::refuse(err, path, b"a Boolean in it is neither 0 nor 1"),
+        NoStart::Unsound => keep::refuse(err, path, b"its state is not sound"),
+        NoStart::OtherUid => keep::refuse(err, path, b"the plan's UID is not its tag's"),
+        NoStart::NoUid => show::tell(
             rt,
             b"line #: it must be the tag's UID, 7 bytes in hexadecimal, the first of them 04; nothing was rehearsed\n",
             &[number],
             &[true],
         ),
-        _ => refused(err, path, s),
-    }
-}
-
-// No run took place.
-fn no_run(tag: Tag) -> Ran {
-    let tally = tallies::none();
-    Ran {
-        ready: false,
-        tag,
-        tally,
+        NoStart::Unread => {}
     }
 }
 
@@ -103,41 +79,32 @@ fn go_on(
     rt: &(impl Print + RandomSource),
     err: &impl Print,
     path: &[u8],
-    b: Begun,
+    start: Result<Tag, NoStart>,
     text: &[u8],
     from: usize,
     number: u64,
-) -> Ran
+) -> Option<Rehearsal>
     requires { number ≤ from }
 {
-    let s = b.start;
-    let t = b.tag;
-    match s {
-        Start::Ready => {
-            let w = walk::steps(rt, t, text, from, number);
-            let tag = w.tag;
-            let tally = w.tally;
-            show::summary(rt, tag);
-            Ran {
-                ready: true,
-                tag,
-                tally,
-            }
+    match start {
+        Ok(tag) => {
+            let r = walk::steps(rt, tag, text, from, number);
+            show::summary(rt, r.tag);
+            Some(r)
         }
-        _ => {
-            complain(rt, err, path, number, s);
-            no_run(t)
+        Err(why) => {
+            complain(rt, err, path, number, why);
+            None
         }
     }
 }
 
 // The tag that a run starts from, where the line is its UID.
-fn first_tag(rt: &impl Files, err: &impl Print, path: &[u8], line: &[u8]) -> Begun {
-    let mut uid = [0u8; 7];
-    if first_lines::line_uid(line, &mut uid) {
-        return begin(rt, err, path, &uid);
+fn first_tag(rt: &impl Files, err: &impl Print, path: &[u8], line: &[u8]) -> Result<Tag, NoStart> {
+    match first_lines::line_uid(line) {
+        Some(uid) => begin(rt, err, path, &uid),
+        None => Err(NoStart::NoUid),
     }
-    keeping::anew(&uid)
 }
 
 // Rehearses a plan: the first line that is not blank is the UID.
@@ -146,12 +113,10 @@ fn run(
     err: &impl Print,
     path: &[u8],
     text: &[u8],
-) -> Ran {
+) -> Option<Rehearsal> {
     let h = first_lines::first_line(text);
-    let start = h.start;
-    let end = h.end;
-    let b = first_tag(rt, err, path, &text[start..end]);
-    go_on(rt, err, path, b, text, end + 1, h.number)
+    let start = first_tag(rt, err, path, &text[h.start..h.end]);
+    go_on(rt, err, path, start, text, h.end + 1, h.number)
 }
 
 // Reads a plan into a room that is larger than any, and rehearses it.
@@ -160,19 +125,22 @@ fn play_in(
     err: &impl Print,
     path: &[u8],
     text: &mut [u8],
-) -> Ran {
+) -> Option<Rehearsal> {
     let mut input = rt.reader();
     let n = reading::read_full(&mut input, text);
     if n == text.len() {
         let _ = rt.write_all(b"a plan has fewer than 262144 characters; nothing was rehearsed\n");
-        let b = keeping::anew(&[0; 7]);
-        return no_run(b.tag);
+        return None;
     }
     run(rt, err, path, &text[..n])
 }
 
 // Reads and rehearses the plan. The path is empty where no tag is kept.
-fn play(rt: &(impl Files + Input + Print + RandomSource), err: &impl Print, path: &[u8]) -> Ran {
+fn play(
+    rt: &(impl Files + Input + Print + RandomSource),
+    err: &impl Print,
+    path: &[u8],
+) -> Option<Rehearsal> {
     let mut text = [0u8; 262144];
     play_in(rt, err, path, &mut text)
 }
@@ -185,15 +153,16 @@ fn play_held<R: Files + Input + Print + RandomSource>(
     path: &[u8],
     name: &[u8],
 ) -> Tally {
-    let r = play(rt, err, path);
-    let tag = r.tag;
-    let tally = r.tally;
-    if r.ready {
-        keep::store(rt, err, file, path, name, tag);
-    } else {
-        keep::release(rt, file, name);
+    match play(rt, err, path) {
+        Some(r) => {
+            keep::store(rt, err, file, path, name, r.tag);
+            r.tally
+        }
+        None => {
+            keep::release(rt, file, name);
+            tallies::none()
+        }
     }
-    tally
 }
 
 // The same with a file whose name is whole: FILE.new is held from here to the end.
@@ -203,20 +172,22 @@ fn play_target(
     path: &[u8],
 ) -> Tally {
     let mut name = [0u8; 4096];
-    let n = arguments::beside(path, &mut name);
+    let Some(n) = arguments::beside(path, &mut name) else {
+        return tallies::none();
+    };
     match keep::hold(rt, err, &name[..n]) {
         Some(file) => play_held(rt, err, file, path, &name[..n]),
         None => tallies::none(),
     }
 }
 
-// An argument at the front of the room, and its length; 0 where there is none or the room has no place for it.
-fn argument(rt: &impl Env, i: usize, room: &mut [u8]) -> usize
-    ensures { IsPrefixLen result room.new }
+// An argument that is not empty, at the front of the room, and its length, where the room has place for it.
+fn argument(rt: &impl Env, i: usize, room: &mut [u8]) -> Option<usize>
+    ensures { IfSome result (λ n. IsPrefixLen n room.new) }
 {
     match rt.arg(i, room) {
-        Ok(n) => n,
-        Err(_) => 0,
+        Ok(0) | Err(_) => None,
+        Ok(n) => Some(n),
     }
 }
 
@@ -224,9 +195,8 @@ fn argument(rt: &impl Env, i: usize, room: &mut [u8]) -> usize
 fn argument_count(rt: &impl Env) -> usize {
     for i in 0..usize::MAX {
         let mut a = [0u8; 1];
-        match rt.arg(i, &mut a) {
-            Err(FillError::NotPresent) => return i,
-            _ => {}
+        if let Err(FillError::NotPresent) = rt.arg(i, &mut a) {
+            return i;
         }
     }
     usize::MAX
@@ -242,18 +212,16 @@ where
 {
     let mut path = [0u8; 4091];
     let mut to = [0u8; 4091];
-    let n = argument(rt, 2, &mut path);
-    if n == 0 {
+    let Some(n) = argument(rt, 2, &mut path) else {
         let _ = err.write_all(
             b"rehearse: the FILE of --image is empty or too long; nothing was rehearsed\n",
         );
         return tallies::none();
+    };
+    match keep::target(rt, err, &path[..n], &mut to) {
+        Some(m) => play_target(rt, err, &to[..m]),
+        None => tallies::none(),
     }
-    let m = keep::target(rt, err, &path[..n], &mut to);
-    if m == 0 {
-        return tallies::none();
-    }
-    play_target(rt, err, &to[..m])
 }
 
 fn unknown(err: &impl Print, argument: &[u8]) {
@@ -268,33 +236,32 @@ fn unknown(err: &impl Print, argument: &[u8]) {
 // Names an argument that is not known. One that is empty or has more than 256 bytes is named so.
 fn refuse_argument(rt: &impl Env, err: &impl Print, i: usize) {
     let mut a = [0u8; 256];
-    let n = argument(rt, i, &mut a);
-    if n == 0 {
-        return unknown(err, b"(empty or too long)");
+    match argument(rt, i, &mut a) {
+        Some(n) => unknown(err, &a[..n]),
+        None => unknown(err, b"(empty or too long)"),
     }
-    unknown(err, &a[..n]);
 }
 
 // What the arguments ask for.
 fn started<R: Files + Env + Input + Print + RandomSource + Alloc>(
     rt: &R,
     err: &impl Print,
-    a: Asked,
+    asked: Result<Asked, BadArguments>,
 ) -> Tally
 where
     R::File: AsRawFd,
 {
-    match a {
-        Asked::Plain => {
-            let r = play(rt, err, b"");
-            r.tally
-        }
-        Asked::Image => play_kept(rt, err),
-        Asked::NoFile => {
+    match asked {
+        Ok(Asked::Plain) => match play(rt, err, b"") {
+            Some(r) => r.tally,
+            None => tallies::none(),
+        },
+        Ok(Asked::Image) => play_kept(rt, err),
+        Err(BadArguments::NoFile) => {
             let _ = err.write_all(b"rehearse: --image needs a FILE\n");
             tallies::none()
         }
-        Asked::Unknown(i) => {
+        Err(BadArguments::Unknown(i)) => {
             refuse_argument(rt, err, i);
             tallies::none()
         }
@@ -304,8 +271,10 @@ where
 // Whether the first argument is --image.
 fn names_image(rt: &impl Env) -> bool {
     let mut a = [0u8; 256];
-    let n = argument(rt, 1, &mut a);
-    base::alike(&a[..n], b"--image")
+    match argument(rt, 1, &mut a) {
+        Some(n) => base::alike(&a[..n], b"--image"),
+        None => false,
+    }
 }
 
 fn main(rt: HostRuntime) {

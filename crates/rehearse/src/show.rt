@@ -5,7 +5,7 @@ use tallies::Tally;
 // A form with its numbers and flags.
 pub fn tell(rt: &impl Print, form: &[u8], numbers: &[u64], flags: &[bool]) {
     let mut room = [0u8; 512];
-    let n = forms::append_form(form, numbers, flags, &mut room, 0);
+    let n = forms::lay_form(form, numbers, flags, &mut room);
     let _ = rt.write_all(&room[..n]);
 }
 
@@ -27,7 +27,7 @@ pub fn last(rt: &impl Print, n: Tally) {
             n.skipped,
             n.unmet,
             n.expecting,
-            n.first,
+            n.first.unwrap_or(0),
             n.blocks,
         ],
         &[0 < n.expecting, 0 < n.unmet],

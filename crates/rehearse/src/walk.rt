@@ -22,8 +22,7 @@ fn taken(rt: &impl Print, tag: Tag, number: u64, line: &[u8], d: &[u8]) -> Turn
 {
     let mut room = [0u8; 4096];
     let a = turns::take_turn(tag, number, line, d, &mut room);
-    let n = a.length;
-    let _ = rt.write_all(&room[..n]);
+    let _ = rt.write_all(&room[..a.length]);
     a.turn
 }
 
@@ -55,13 +54,11 @@ pub fn steps(
     let mut line = number;
     while at < text.len() {
         let end = lines::find(text, at, b'\n');
-        let next = end + 1;
         line += 1;
         let w = step(rt, t, line, &text[at..end]);
-        let k = tallies::counted(n, line, w.went);
+        n = tallies::counted(n, line, w.went);
         t = w.tag;
-        n = k;
-        at = next;
+        at = end + 1;
     }
     Rehearsal { tag: t, tally: n }
 }

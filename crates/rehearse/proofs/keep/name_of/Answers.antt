@@ -3,7 +3,7 @@ use Rattle.forms.proofs.Laying.{tells}
 use Rattle.rehearse.proofs.keep.name_of.Goals as goal
 
 pub slice_bounds-p-end : goal.slice_bounds-p-end
-slice_bounds-p-end g c = (tells c.append_form-n.ensures).2.0
+slice_bounds-p-end g c = (tells c.lay_form-n.ensures).2.0
 
 pub slice_bounds-read_link-end : goal.slice_bounds-read_link-end
-slice_bounds-read_link-end g c = (tells c.append_form-n.ensures).2.1
+slice_bounds-read_link-end g c = (tells c.lay_form-n.ensures).2.1

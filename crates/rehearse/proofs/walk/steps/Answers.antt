@@ -22,8 +22,8 @@ loop-at-init g c =
       λ r w. subst (λ k. Walked k a.number (drop a.from x) a.tag n r) e w,
     )
 
-pub overflow_add-next : goal.overflow_add-next
-overflow_add-next g c =
+pub overflow_add-at : goal.overflow_add-at
+overflow_add-at g c =
     let x = c.args.text.now in
     let e = seek-from x c.loop-at.at 10 in
     let f = seek_within x c.loop-at.at 10 (omega (arith, c.loop-at-test.true)) in
@@ -72,7 +72,7 @@ loop-at-preserved g c =
     let l = c.loop-at in
     let p = c.args.number in
     let s = c.step-w in
-    let q = c.counted-k in
+    let q = c.counted-n in
     let n = l.n in
     let m : suc (length x - (l.line + 1 - p)) ≡ length x - (l.line - p) = omega (arith, l.invariant.0, l.invariant.1, c.loop-at-test.true) in (
       omega (arith, l.invariant.0),
