@@ -1,13 +1,24 @@
 -- Each public function of the floors from base to mirror: its promise, as the source states it, determines the result and the lent room.
-use Rattle.std.specs.Prelude.{Result}
-use mathlib.Core.Bool.{Bool, not}
+use Rattle.closing.specs.declared.NotClosed.{NotClosed}
+use Rattle.closing.specs.declared.Closed.{Closed}
+use Rattle.writing.specs.declared.NotWritten.TheVariants.{NoFile}
+use Rattle.writing.specs.declared.NotWritten.{NotWritten}
+use Rattle.opening.specs.declared.Opened.{Opened}
+use Rattle.normalising.specs.declared.NotNormal.TheVariants.{Fault as Faulty}
+use Rattle.normalising.specs.declared.NotNormal.{NotNormal}
+use Rattle.settings.specs.declared.Fault.TheVariants.{String, File}
+use Rattle.settings.specs.declared.Fault.{Fault}
+use Rattle.rules.specs.declared.findings.Broken.{Broken}
+use Rattle.lines.specs.declared.DecodeError.{DecodeError}
+use Rattle.std.specs.Prelude.{Result, Option}
+use mathlib.Core.Bool.{Bool}
 use mathlib.Core.List.{List}
 use mathlib.Core.Path.{◌≡◌, sym, ◌∙◌}
 use Prim.Native.Nat.{ℕ, ◌/◌, ◌%◌}
 use lib.Dec.{leb}
 use lib.ListN.{length, take}
 use Rattle.base.specs.Bytes.{byte_at, laid, same}
-use Rattle.base.specs.Decide.{and, or, pick}
+use Rattle.base.specs.Decide.{pick}
 use Rattle.sbox.specs.Tables.{inv_sbox, sbox}
 use Rattle.sbox.specs.Words.{mixing_table, unmixing_table, packed}
 use Rattle.words.specs.Words.{block_of, column_of, picked_of, words_of}
@@ -27,18 +38,12 @@ use Rattle.spans.specs.declared.Reading.{Reading}
 use Rattle.spans.specs.declared.Span.{Span}
 use Rattle.rules.specs.Numbers.{finding_number, first_number}
 use Rattle.rules.specs.Rules.{found, meets, rules, examined}
-use Rattle.rules.specs.declared.Finding.{Finding}
-use Rattle.settings.specs.Answers.{judged, read_as, status_word, told_word, verdict_word, seen}
+use Rattle.settings.specs.Answers.{fault_word, fault_of, judged, read_as, status_word, told_word, verdict_word, seen}
 use Rattle.settings.specs.Filing.{file_fault_word, file_judged, file_status, filed_word}
 use Rattle.settings.specs.declared.FileFault.{FileFault}
-use Rattle.settings.specs.declared.Filed.{Filed}
 use Rattle.settings.specs.declared.Status.{Status}
-use Rattle.settings.specs.declared.Told.{Told}
-use Rattle.settings.specs.declared.Verdict.{Verdict}
 use Rattle.normalising.specs.Answers.{normal_room, normalised}
-use Rattle.normalising.specs.declared.Normalised.{Normalised}
 use Rattle.writing.specs.Answers.{writing_number, written_as, written_number, written_room}
-use Rattle.writing.specs.declared.Written.{Written}
 use Rattle.crc.specs.Crc.{crc}
 use Rattle.sdm.specs.Tap.{Hides, picc_cost, picc_data, tap_enc_key, tap_iv, tap_iv_cost, tap_key_cost, tap_mac_key}
 use Rattle.sdm.specs.declared.Tap.{Tap}
@@ -47,18 +52,13 @@ use Rattle.authentication.specs.declared.PartTwo.{PartTwo}
 use Rattle.session_keys.specs.Keys.{session_keys}
 use Rattle.session_keys.specs.declared.Keys.{Keys}
 use Rattle.padding.specs.Padding.{Pads, is_padded, unpad, unpadded_status}
-use Rattle.padding.specs.declared.Padded.{Padded}
-use Rattle.padding.specs.declared.Unpadded.{Unpadded}
 use Rattle.messaging.specs.Protect.{command_iv, command_vector, message_mac, message_mac_cost, reply_iv, reply_vector, vector_cost}
 use Rattle.messaging.specs.declared.Mode.{Mode}
 use Rattle.messaging.specs.declared.Session.{Session}
 use Rattle.closing.specs.Reply.{Closes, overlong}
-use Rattle.closing.specs.declared.ClosedFor.{ClosedFor}
 use Rattle.opening.specs.Command.{Opens, opening, opening_cost}
-use Rattle.opening.specs.declared.OpenedFor.{OpenedFor}
 use Rattle.lines.specs.Hex.{char_of, chars_room, decoded, decoded_number, decoded_room, digit_of, is_hex}
 use Rattle.lines.specs.Lines.{seek}
-use Rattle.lines.specs.declared.Decoded.{Decoded}
 use Rattle.mirror.specs.Mirrors.{dynamic_cost, dynamic_data}
 use Rattle.mirror.specs.declared.Mirror.{Mirror}
 use Rattle.determined.specs.Determining.{Determined, DeterminedIn}
@@ -143,16 +143,6 @@ cmac_of_determined w s = once
 pub mac_of_determined : (w : List (List ℕ)) (s : List ℕ) → Determined (λ (r : Counted 8). r ≡ counted (even_places (cmac w s)) (cmac_cost (length s)))
 mac_of_determined w s = once
 
--- ---- truth
-pub both_determined : (a b : Bool) → Determined (λ (r : Bool). r ≡ and a b)
-both_determined a b = once
-
-pub either_determined : (a b : Bool) → Determined (λ (r : Bool). r ≡ or a b)
-either_determined a b = once
-
-pub negate_determined : (a : Bool) → Determined (λ (r : Bool). r ≡ not a)
-negate_determined a = once
-
 -- ---- fields
 pub in_order_determined : (p : Places) → Determined (λ (r : List ℕ). r ≡ listed p)
 in_order_determined p = once
@@ -209,7 +199,7 @@ pub examine_determined : (file : ℕ) (s : List ℕ)
 examine_determined file s r q p h = once r q p.0 h.0
 
 pub broken_determined : (file : ℕ) (s : List ℕ)
-    → Determined (λ (r : Finding). (r ≡ found (rules file s)) × (finding_number r ≡ first_number (rules file s)))
+    → Determined (λ (r : Result (Unit {0}) Broken). (r ≡ found (rules file s)) × (finding_number r ≡ first_number (rules file s)))
 broken_determined file s r q p h = once r q p.0 h.0
 
 pub meets_determined : (file : ℕ) (r : Settings) → Determined (λ (x : Bool). x ≡ meets file r)
@@ -219,35 +209,53 @@ meets_determined file r = once
 pub see_determined : (file : ℕ) (s : List ℕ) → Determined (λ (r : Seen). r ≡ seen file s)
 see_determined file s = once
 
-pub status_word_determined : (s : Status) → Determined (λ (r : ℕ). r ≡ status_word s)
-status_word_determined s = once
-
-pub file_fault_word_determined : (f : FileFault) → Determined (λ (r : ℕ). r ≡ file_fault_word f)
-file_fault_word_determined f = once
-
-pub judge_file_determined : (file : ℕ) → Determined (λ (r : Filed). (r ≡ file_judged file) × (filed_word r ≡ file_status file))
+pub judge_file_determined : (file : ℕ)
+    → Determined (λ (r : Result (Unit {0}) FileFault). (r ≡ file_judged file) × (filed_word r ≡ file_status file))
 judge_file_determined file r q p h = once r q p.0 h.0
 
-pub judge_determined : (file : ℕ) (s : List ℕ) → Determined (λ (r : Verdict). r ≡ judged file s)
+pub judge_determined : (file : ℕ) (s : List ℕ) → Determined (λ (r : Result (Unit {0}) Fault). r ≡ judged file s)
 judge_determined file s = once
 
 pub read_determined : (file : ℕ) (s : List ℕ)
-    → Determined (λ (r : Told). (r ≡ read_as (judged file s) s) × (told_word r ≡ verdict_word (judged file s)))
+    → Determined (λ (r : Result Reading Fault). (r ≡ read_as (judged file s) s) × (told_word r ≡ verdict_word (judged file s)))
 read_determined file s r q p h = once r q p.0 h.0
+
+pub u16_from_Status_determined : (status : Status) → Determined (λ (word : ℕ). word ≡ status_word status)
+u16_from_Status_determined status = once
+
+pub u16_from_FileFault_determined : (fault : FileFault) → Determined (λ (word : ℕ). word ≡ file_fault_word fault)
+u16_from_FileFault_determined fault = once
+
+pub u16_from_Fault_determined : (fault : Fault) → Determined (λ (word : ℕ). word ≡ fault_word fault)
+u16_from_Fault_determined fault = once
+
+pub Fault_from_Status_determined : (status : Status) → Determined (λ (fault : Fault). fault ≡ String status)
+Fault_from_Status_determined status = once
+
+pub Fault_from_FileFault_determined : (file : FileFault) → Determined (λ (fault : Fault). fault ≡ File file)
+Fault_from_FileFault_determined file = once
+
+pub Fault_from_Broken_determined : (broken : Broken) → Determined (λ (fault : Fault). fault ≡ fault_of broken)
+Fault_from_Broken_determined broken = once
 
 -- ---- normalising
 pub is_normal_determined : (s : List ℕ) → Determined (λ (r : Bool). r ≡ same s (normal s))
 is_normal_determined s = once
 
 pub normalise_determined : (file : ℕ) (s room : List ℕ)
-    → DeterminedIn (λ (r : Normalised) (new : List ℕ). (r ≡ normalised (judged file s) s room) × (new ≡ normal_room (judged file s) s room))
+    → DeterminedIn (λ (r : Result ℕ NotNormal) (new : List ℕ). (r ≡ normalised (judged file s) s room) × (new ≡ normal_room (judged file s) s room))
 normalise_determined file s room = twice
+
+pub NotNormal_from_Fault_determined : (fault : Fault) → Determined (λ (reason : NotNormal). reason ≡ Faulty fault)
+NotNormal_from_Fault_determined fault = once
 
 -- ---- writing
 pub write_determined : (file : ℕ) (r : Settings) (room : List ℕ)
-    → DeterminedIn (λ (w : Written) (new : List ℕ). (w ≡ written_as file r room) × ((new ≡ written_room file r room)
-    × (written_number w ≡ writing_number file r room)))
+    → DeterminedIn (λ (w : Result ℕ NotWritten) (new : List ℕ). (w ≡ written_as file r room) × ((new ≡ written_room file r room) × (written_number w ≡ writing_number file r room)))
 write_determined file r room w q new other p h = twice w q new other (p.0, p.1.0) (h.0, h.1.0)
+
+pub NotWritten_from_FileFault_determined : (fault : FileFault) → Determined (λ (reason : NotWritten). reason ≡ NoFile fault)
+NotWritten_from_FileFault_determined fault = once
 
 -- ---- crc
 pub crc_of_determined : (s : List ℕ) → Determined (λ (r : List ℕ). r ≡ crc s)
@@ -290,11 +298,10 @@ pub session_keys_determined : (kx a b : List ℕ) → Determined (λ (r : Keys).
 session_keys_determined kx a b = once
 
 -- ---- padding
-pub pad_determined : (room : List ℕ) (n : ℕ) → DeterminedIn (λ (r : Padded) (new : List ℕ). Pads n room r new)
+pub pad_determined : (room : List ℕ) (n : ℕ) → DeterminedIn (λ (r : Option ℕ) (new : List ℕ). Pads n room r new)
 pad_determined room n = pads_once
 
-pub unpad_determined : (s : List ℕ)
-    → Determined (λ (r : Unpadded). (r ≡ unpad s) × (unpadded_status r ≡ pick (is_padded s) 0x9100 0x911E))
+pub unpad_determined : (s : List ℕ) → Determined (λ (r : Option ℕ). (r ≡ unpad s) × (unpadded_status r ≡ pick (is_padded s) 0x9100 0x911E))
 unpad_determined s r q p h = once r q p.0 h.0
 
 -- ---- messaging
@@ -316,7 +323,7 @@ reply_vector_determined w s = once
 
 -- ---- closing
 pub close_determined : (s : Session) (m : Mode) (code : ℕ) (room : List ℕ) (n : ℕ)
-    → DeterminedIn (λ (r : ClosedFor) (new : List ℕ). Closes s m code n room r new)
+    → DeterminedIn (λ (r : Result Closed NotClosed) (new : List ℕ). Closes s m code n room r new)
 close_determined s m code room n = closes_once
 
 pub too_long_determined : (m : Mode) (n : ℕ) → Determined (λ (r : Bool). r ≡ overlong m n)
@@ -324,14 +331,14 @@ too_long_determined m n = once
 
 -- ---- opening
 pub open_determined : (s : Session) (m : Mode) (cmd : ℕ) (x : List ℕ) (h : ℕ) (there : Bool) (room : List ℕ)
-    → DeterminedIn (λ (r : OpenedFor) (new : List ℕ). Opens x (opening s m cmd x h there) (opening_cost s m cmd x h there) room r new)
+    → DeterminedIn (λ (r : Opened) (new : List ℕ). Opens x (opening s m cmd x h there) (opening_cost s m cmd x h there) room r new)
 open_determined s m cmd x h there room = opens_once
 
 -- ---- lines
 pub find_determined : (text : List ℕ) (at b : ℕ) → Determined (λ (r : ℕ). r ≡ seek text at b)
 find_determined text at b = once
 
-pub digit_determined : (c : ℕ) → Determined (λ (r : ℕ). r ≡ digit_of c)
+pub digit_determined : (c : ℕ) → Determined (λ (r : Option ℕ). r ≡ digit_of c)
 digit_determined c = once
 
 pub character_determined : (v : ℕ) → Determined (λ (r : ℕ). r ≡ char_of (v % 16))
@@ -341,7 +348,7 @@ pub is_hex_determined : (text : List ℕ) → Determined (λ (r : Bool). r ≡ i
 is_hex_determined text = once
 
 pub decode_determined : (text room : List ℕ)
-    → DeterminedIn (λ (r : Decoded) (new : List ℕ). (r ≡ decoded text room) × ((new ≡ decoded_room text room)
+    → DeterminedIn (λ (r : Result ℕ DecodeError) (new : List ℕ). (r ≡ decoded text room) × ((new ≡ decoded_room text room)
     × (decoded_number r ≡ pick (is_hex text) (pick (leb (length text / 2) (length room)) 0 2) 1)))
 decode_determined text room r q new other p h = twice r q new other (p.0, p.1.0) (h.0, h.1.0)
 

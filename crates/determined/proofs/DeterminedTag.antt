@@ -1,10 +1,22 @@
 -- Each public function of the floors from state to tag: its promise, as the source states it, determines the result and the lent
 -- room. An answer (Done) is determined up to the bytes behind its length. The other public function of crate tag is `fresh` of delivery.
-use mathlib.Core.Path.{◌≡◌}
+use native.Mathlib.Omega.{arith}
+use Rattle.std.specs.Prelude.{Option, Result}
+use Rattle.determined.proofs.Words.{status_once, refusal_once, ordered_once}
+use Rattle.access.specs.declared.Grant.{Grant}
+use Rattle.settings.specs.declared.Fault.{Fault}
+use Rattle.settings.specs.Answers.{fault_word}
+use Rattle.delivery.specs.declared.WrongUid.{WrongUid}
+use Rattle.buffers.specs.declared.buffer.Buffer.{Buffer}
+use Rattle.buffers.specs.Text.{text_of}
+use Rattle.base.specs.Bytes.{over}
+use Rattle.statuses.specs.declared.Status.{Status}
+use Rattle.statuses.specs.Words.{word_or_0, status_word, status_word as word_of}
+use mathlib.Core.Path.{◌≡◌, sym, ◌∙◌}
 use mathlib.Core.Bool.{Bool}
-use mathlib.Core.List.{List}
-use Prim.Native.Nat.{ℕ, min}
-use lib.ListN.{take}
+use mathlib.Core.List.{[], ◌++◌, List}
+use Prim.Native.Nat.{ℕ, min, ◌≤◌}
+use lib.ListN.{length-take, replicate, length, take, drop}
 use Rattle.fields.specs.declared.Head.{Head}
 use Rattle.spans.specs.Spans.{SpansFit}
 use Rattle.spans.specs.declared.Reading.{Reading}
@@ -19,7 +31,6 @@ use Rattle.state.specs.declared.Tapping.{Tapping}
 use Rattle.order.specs.Order.{key_status}
 use Rattle.replies.specs.Answer.{Gives, accepted, afterwards, given_for, refusal, room_given}
 use Rattle.replies.specs.declared.Done.{Done}
-use Rattle.replies.specs.declared.Excerpt.{Excerpt}
 use Rattle.auth.specs.Parts.{part_one_first, part_one_next}
 use Rattle.keyring.specs.Keyring.{changed_key, key_version}
 use Rattle.details.specs.Details.{card_uid, file_counters, file_settings}
@@ -27,27 +38,47 @@ use Rattle.file_parts.specs.Filing.{part_of, stored, stored_iso, with_bytes}
 use Rattle.taps.specs.Taps.{tap_read}
 use Rattle.contents.specs.Contents.{read_data, written_data}
 use Rattle.selects.specs.Selects.{selected}
-use Rattle.access.specs.declared.Noted.{Noted}
 use Rattle.access.specs.declared.Marks.{Marks}
 use Rattle.access.specs.Marks.{marks_of}
 use Rattle.access.specs.Access.{decided}
 use Rattle.binaries.specs.Binaries.{binary}
 use Rattle.delivery.specs.Fresh.{Births}
-use Rattle.delivery.specs.declared.Birth.{Birth}
 use Rattle.soundness.specs.Sound.{sound_tag, judged_tag}
 use Rattle.change_settings.specs.ChangeSettings.{changed_settings}
 use Rattle.part_two.specs.PartTwo.{part_two_answer}
 use Rattle.wrapped.specs.Wrapped.{wrapped}
 use Rattle.tag.specs.Call.{Calls}
 use Rattle.tag.specs.declared.Called.{Called}
-use Rattle.determined.specs.Determining.{Determined, DeterminedIn, DeterminedText}
-use Rattle.order.specs.Commands.{ordered, ordered_number}
-use Rattle.order.specs.declared.Ordered.{Ordered}
+use Rattle.determined.specs.Determining.{Determined, DeterminedIn, DeterminedText, DeterminedStatus, DeterminedWord, DeterminedBuffer}
+use Rattle.order.specs.Commands.{in_words, ordered, ordered_number}
 use Rattle.access.specs.declared.Decision.{Decision}
 use Rattle.order.specs.declared.Name.{Name}
 use Rattle.soundness.specs.declared.Judged.{Judged}
 use Rattle.order.specs.declared.Command.{Command}
-use Rattle.determined.proofs.Determined.{once, calls_once, births_once, gives_once}
+use Rattle.determined.proofs.Determined.{once, calls_once, births_once, gives_once, array_once, both_once, text_once, over_length}
+
+-- ---- statuses
+pub u16_from_Status_determined : (s : Status) → Determined (λ (n : ℕ). n ≡ status_word s)
+u16_from_Status_determined s = once
+
+-- ---- settings
+pub Status_from_Fault_determined : (fault : Fault) → DeterminedStatus (λ (status : Status). word_of status ≡ fault_word fault)
+Status_from_Fault_determined fault = status_once
+
+-- ---- buffers
+pub empty_determined : (N : ℕ) → Determined (λ (r : Buffer N). (text_of r ≡ []) × ((r.length ≡ 0) × (r.bytes ≡ replicate N 0)))
+empty_determined N r q p h = array_once r q (p.1.1 ∙ sym h.1.1) (p.1.0 ∙ sym h.1.0)
+
+pub of_determined : (N : ℕ) (text : List ℕ)
+    → Determined (λ (r : Buffer N). (text_of r ≡ take N text) × ((r.length ≡ min (length text) N) × (r.bytes ≡ over (take N text) (replicate N 0))))
+of_determined N text r q p h = array_once r q (p.1.1 ∙ sym h.1.1) (p.1.0 ∙ sym h.1.0)
+
+pub append_determined : (N : ℕ) (self : Buffer N) (more : List ℕ)
+    → DeterminedBuffer (λ (new : Buffer N). text_of new ≡ take N (text_of self ++ more))
+append_determined N self more = text_once
+
+pub as_slice_determined : (N : ℕ) (self : Buffer N) → Determined (λ (r : List ℕ). r ≡ text_of self)
+as_slice_determined N self = once
 
 -- ---- state
 pub session_of_determined : (l : Live) → Determined (λ (r : Session). r ≡ session_of l)
@@ -88,32 +119,30 @@ string_in_determined rules lens n = once
 
 -- ---- order
 pub command_in_determined : (c : List ℕ) (pending application : Bool) (file : ℕ)
-    → Determined (λ (r : Ordered). (r ≡ ordered c pending application file) × (ordered_number r ≡ ordered_number (ordered c pending application file)))
-command_in_determined c pending application file r q p h = once r q p.0 h.0
+    → DeterminedWord (λ (r : Result Command Status). (in_words r ≡ ordered c pending application file) × (ordered_number (in_words r) ≡ ordered_number (ordered c pending application file)))
+command_in_determined c pending application file r q a b p h = ordered_once r q a b p.0 h.0
 
-pub key_status_determined : (k : ℕ) → Determined (λ (r : ℕ). r ≡ key_status k)
-key_status_determined k = once
+pub key_status_determined : (k : ℕ) → DeterminedWord (λ (r : Result (Unit {0}) Status). word_or_0 r ≡ key_status k)
+key_status_determined k = refusal_once
 
 -- ---- replies
-pub give_text_determined : (tag : Tag) (status : ℕ) (e : List ℕ) (cost : ℕ) → DeterminedText (λ (r : Done). Gives (room_given cost tag status e) r)
-give_text_determined tag status e cost = gives_once
+pub give_text_determined : (tag : Tag) (status : Status) (text : List ℕ) (cost : ℕ)
+    → DeterminedText (λ (r : Done). Gives (room_given cost tag (status_word status) text) r)
+give_text_determined tag status text cost = gives_once
 
-pub smaller_determined : (a b : ℕ) → Determined (λ (r : ℕ). r ≡ min a b)
-smaller_determined a b = once
-
-pub refuse_determined : (tag : Tag) (status : ℕ) → DeterminedText (λ (r : Done). Gives (refusal tag status) r)
+pub refuse_determined : (tag : Tag) (status : Status) → DeterminedText (λ (r : Done). Gives (refusal tag (status_word status)) r)
 refuse_determined tag status = gives_once
 
-pub give_determined : (tag : Tag) (status : ℕ) (bytes : List ℕ) (n cost : ℕ)
-    → DeterminedText (λ (r : Done). Gives (given_for cost tag status (take (min n 256) bytes)) r)
-give_determined tag status bytes n cost = gives_once
+pub give_determined : (tag : Tag) (status : Status) (reply : Buffer 258) (cost : ℕ)
+    → DeterminedText (λ (r : Done). Gives (given_for cost tag (status_word status) (take 256 (text_of reply))) r)
+give_determined tag status reply cost = gives_once
 
 pub after_determined : (tag : Tag) → Determined (λ (r : Tag). r ≡ afterwards tag)
 after_determined tag = once
 
-pub accept_determined : (tag : Tag) (m : Mode) (bytes : List ℕ) (n : ℕ)
-    → DeterminedText (λ (r : Done). Gives (accepted tag m (take (min n 256) bytes)) r)
-accept_determined tag m bytes n = gives_once
+pub accept_determined : (tag : Tag) (mode : Mode) (reply : Buffer 258)
+    → DeterminedText (λ (r : Done). Gives (accepted tag mode (take 256 (text_of reply))) r)
+accept_determined tag mode reply = gives_once
 
 -- ---- auth
 pub first_determined : (tag : Tag) (x random : List ℕ) → DeterminedText (λ (r : Done). Gives (part_one_first tag x random) r)
@@ -126,22 +155,26 @@ next_determined tag x random = gives_once
 pub change_key_determined : (tag : Tag) (k : ℕ) (p : List ℕ) → DeterminedText (λ (r : Done). Gives (changed_key tag k p) r)
 change_key_determined tag k p = gives_once
 
-pub key_version_determined : (tag : Tag) (k : ℕ) (m : Mode) → DeterminedText (λ (r : Done). Gives (key_version tag k m) r)
-key_version_determined tag k m = gives_once
+pub key_version_determined : (tag : Tag) (k : ℕ) (mode : Mode) → DeterminedText (λ (r : Done). Gives (key_version tag k mode) r)
+key_version_determined tag k mode = gives_once
 
 -- ---- details
 pub card_uid_determined : (tag : Tag) → DeterminedText (λ (r : Done). Gives (card_uid tag) r)
 card_uid_determined tag = gives_once
 
-pub file_settings_determined : (tag : Tag) (n : ℕ) (m : Mode) → DeterminedText (λ (r : Done). Gives (file_settings tag n m) r)
-file_settings_determined tag n m = gives_once
+pub file_settings_determined : (tag : Tag) (n : ℕ) (mode : Mode) → DeterminedText (λ (r : Done). Gives (file_settings tag n mode) r)
+file_settings_determined tag n mode = gives_once
 
-pub file_counters_determined : (tag : Tag) (m : Mode) → DeterminedText (λ (r : Done). Gives (file_counters tag m) r)
-file_counters_determined tag m = gives_once
+pub file_counters_determined : (tag : Tag) (mode : Mode) → DeterminedText (λ (r : Done). Gives (file_counters tag mode) r)
+file_counters_determined tag mode = gives_once
 
 -- ---- file_parts
-pub cut_determined : (text : List ℕ) (at count : ℕ) → Determined (λ (r : Excerpt). r ≡ part_of text at count)
-cut_determined text at count = once
+pub cut_determined : (text : List ℕ) (at count : ℕ)
+    → Determined (λ (r : Buffer 258). (text_of r ≡ part_of text at count) × (r.bytes ≡ over (part_of text at count) (replicate 258 0)))
+unfolding part_of
+cut_determined text at count =
+    let short : length (part_of text at count) ≤ 258 = omega (arith, length-take (min count 256) (drop at text)) in
+    both_once (over_length (part_of text at count) 258 short)
 
 pub read_stored_determined : (tag : Tag) (m : Mode) (n at count : ℕ) → DeterminedText (λ (r : Done). Gives (stored tag m n at count) r)
 read_stored_determined tag m n at count = gives_once
@@ -171,15 +204,15 @@ select_determined tag p1 p2 d = gives_once
 pub decide_determined : (name : Name) (l : Live) (h : Head) → Determined (λ (r : Decision). r ≡ decided name l h)
 decide_determined name l h = once
 
-pub marked_determined : (n : Noted) → Determined (λ (m : Marks). m ≡ marks_of n)
-marked_determined n = once
+pub marked_determined : (noted : Option Grant) → Determined (λ (m : Marks). m ≡ marks_of noted)
+marked_determined noted = once
 
 -- ---- binaries
 pub binary_determined : (tag : Tag) (k : Command) (r : Reading) (d : Decision) (x random : List ℕ) → SpansFit r → DeterminedText (λ (y : Done). Gives (binary tag k r d x random) y)
 binary_determined tag k r d x random asked = gives_once
 
 -- ---- delivery
-pub fresh_determined : (uid : List ℕ) → Determined (λ (r : Birth). Births uid r)
+pub fresh_determined : (uid : List ℕ) → Determined (λ (r : Result Tag WrongUid). Births uid r)
 fresh_determined uid = births_once
 
 -- ---- inter_industry

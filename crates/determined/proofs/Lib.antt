@@ -1,3 +1,4 @@
+pub mod Words
 pub mod Determined
 pub mod DeterminedFloors
 pub mod DeterminedTag
