@@ -19,9 +19,8 @@ use Rattle.tag.specs.declared.Called.{Called}
 use Rattle.verdict.specs.Replies.{status_in, refusing, differing}
 use Rattle.tallies.specs.declared.Went.{Went}
 use Rattle.turns.specs.declared.Turn.{Turn}
-use Rattle.turns.specs.declared.Acted.{Acted}
 use Rattle.turns.specs.Steps.{next_of, reply_to, cost_of, went_by, told_by, played, stays, Drew, Draws, Carried}
-use Rattle.turns.specs.Acts.{why_with, acted_of, played_as, silent, drawn_by, acted_by}
+use Rattle.turns.specs.Acts.{Act, why_with, acted_of, played_as, silent, drawn_by, acted_by}
 
 -- what is said of a command, by what was computed for it
 pub went_is : (reply expected : List ℕ) (k s : ℕ) (f u : Bool) → s ≡ status_in reply → f ≡ refusing s → u ≡ differing expected reply
@@ -49,19 +48,15 @@ went_is reply expected k s f u p q r =
     }
 
 -- a turn by what the call answered and left in the room
-pub acted_is : (d : Called) (key : ℕ) (room expected : List ℕ) (w : Went) (y : Why) → w ≡ went_by (take d.length room) expected d.cost
-    → y ≡ why_with d.noted key
-    → ◌≡◌ {A = Acted} (record { turn = record { tag = d.tag; went = w }; length = d.length; room = room; why = y }) (acted_of d key room expected)
-unfolding acted_of told_by
-acted_is d key room expected w y p q =
-    λ i. record { turn = record { tag = d.tag; went = p i }; length = d.length; room = room; why = q i }
-
-pub played_is : (t : Tag) (c random expected : List ℕ) (d : Called) (room : List ℕ)
+pub played_is : (t : Tag) (c random expected : List ℕ) (d : Called) (room : List ℕ) (w : Went) (y : Why)
     → d ≡ by_outcome t (answered t c random) (noted t c) (outcome_of t random (replicate 258 0))
     → room ≡ room_by (answered t c random) (replicate 258 0) (outcome_of t random (replicate 258 0))
-    → acted_of d t.live.key room expected ≡ played_as t c random expected
-unfolding played_as
-played_is t c random expected d room p q = ap₂ (λ (e : Called) (x : List ℕ). acted_of e t.live.key x expected) p q
+    → w ≡ went_by (take d.length room) expected d.cost → y ≡ why_with d.noted t.live.key
+    → ◌≡◌ {A = Act} (record { turn = record { tag = d.tag; went = w }; reply = take d.length room; why = y }) (played_as t c random expected)
+unfolding played_as acted_of told_by
+played_is t c random expected d room w y p q h k =
+    (λ i. record { turn = record { tag = d.tag; went = h i }; reply = take d.length room; why = k i })
+    ∙ ap₂ (λ (e : Called) (x : List ℕ). acted_of e t.live.key x expected) p q
 
 -- ---- the machine gave random bytes, and it gave none
 played_drew : (t : Tag) (c random expected : List ℕ) (r : Turn) → r ≡ played t c random expected → r.went.undrawn ≡ false

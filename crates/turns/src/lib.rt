@@ -1,13 +1,14 @@
 // A line of a plan: what it does to the tag, and what is printed of it.
 #![tactic(auto)]
 
-ghost use Rattle.std.specs.Prelude.{◌≡◌, ◌≤◌, take};
+ghost use Rattle.std.specs.Prelude.{◌≡◌, take};
 ghost use Rattle.turns.specs.Steps.{went_by, stays, meaning_in, expected_in};
-ghost use Rattle.turns.specs.Acts.{why_with, played_as, silent, drawn_by, acted_by};
+ghost use Rattle.turns.specs.Acts.{act_of, why_with, played_as, silent, drawn_by, acted_by};
 ghost use Rattle.turns.specs.Lines.{told_of, line_acted, line_told};
 ghost use Rattle.forms.specs.Rooms.{Lays};
 
 use access::Grant;
+use buffers::Buffer;
 use plans::{Line, Meaning, Reason};
 use state::Tag;
 use tallies::Went;
@@ -20,12 +21,11 @@ pub struct Turn {
     pub went: Went,
 }
 
-// A turn, the reply: as many first bytes of the room, and what is noted of it.
+// A turn, the reply, and what is noted of it.
 #[derive(Clone, Copy)]
 pub struct Acted {
     pub turn: Turn,
-    pub length: usize,
-    pub room: [u8; 258],
+    pub reply: Buffer<258>,
     pub why: Why,
 }
 
@@ -67,8 +67,7 @@ fn noted(n: Option<Grant>, key: u8) -> Why
 
 // A command is played.
 fn play(tag: Tag, command: &[u8], random: &[u8], expected: &[u8]) -> Acted
-    ensures told { result ≡ played_as tag command.now random.now expected.now }
-    ensures short { result.length ≤ 258 }
+    ensures { act_of result ≡ played_as tag command.now random.now expected.now }
 {
     let mut room = [0u8; 258];
     let d = tag::call(tag, command, random, &mut room);
@@ -76,16 +75,17 @@ fn play(tag: Tag, command: &[u8], random: &[u8], expected: &[u8]) -> Acted
     let why = noted(d.noted, tag.live.key);
     Acted {
         turn: Turn { tag: d.tag, went },
-        length: d.length,
-        room,
+        reply: Buffer {
+            bytes: room,
+            length: d.length,
+        },
         why,
     }
 }
 
 // Plays the first n bytes of a command.
 fn front(tag: Tag, n: usize, c: &[u8], x: &[u8], e: &[u8]) -> Acted
-    ensures told { result ≡ played_as tag (take n c.now) x.now e.now }
-    ensures short { result.length ≤ 258 }
+    ensures { act_of result ≡ played_as tag (take n c.now) x.now e.now }
 {
     play(tag, c.get(..n).unwrap_or(c), x, e)
 }
@@ -93,8 +93,7 @@ fn front(tag: Tag, n: usize, c: &[u8], x: &[u8], e: &[u8]) -> Acted
 // A line that does nothing: it is blank, or skipped, or skipped since the machine gave no random bytes.
 #[tactic(auto, unfolding(crate::specs::Acts::silent, crate::specs::Steps::stays))]
 fn still(tag: Tag, skipped: bool, undrawn: bool) -> Acted
-    ensures told { result ≡ silent (stays tag skipped undrawn) }
-    ensures short { result.length ≤ 258 }
+    ensures { act_of result ≡ silent (stays tag skipped undrawn) }
 {
     let went = Went {
         played: false,
@@ -107,8 +106,7 @@ fn still(tag: Tag, skipped: bool, undrawn: bool) -> Acted
     };
     Acted {
         turn: Turn { tag, went },
-        length: 0,
-        room: [0u8; 258],
+        reply: Buffer::empty(),
         why: Why {
             how: 0,
             right: 0,
@@ -120,8 +118,7 @@ fn still(tag: Tag, skipped: bool, undrawn: bool) -> Acted
 // A command without random bytes of its own takes the machine's, where they are 20; else the tag is left as it is.
 #[tactic(auto, unfolding(crate::specs::Acts::drawn_by))]
 fn drawn(tag: Tag, n: usize, c: &[u8], d: &[u8], e: &[u8]) -> Acted
-    ensures told { result ≡ drawn_by n tag c.now e.now d.now }
-    ensures short { result.length ≤ 258 }
+    ensures { act_of result ≡ drawn_by n tag c.now e.now d.now }
 {
     if d.len() == 20 {
         front(tag, n, c, d, e)
@@ -140,8 +137,7 @@ fn carry_out(
     e: &[u8],
     d: &[u8],
 ) -> Acted
-    ensures told { result ≡ acted_by meaning tag c.now x.now e.now d.now }
-    ensures short { result.length ≤ 258 }
+    ensures { act_of result ≡ acted_by meaning tag c.now x.now e.now d.now }
 {
     match meaning {
         Err(_) => still(tag, true, false),
@@ -176,7 +172,7 @@ fn turned(
         number,
         meaning,
         c,
-        &a.room[..a.length],
+        a.reply.as_slice(),
         a.why,
         went.blocks,
         e,

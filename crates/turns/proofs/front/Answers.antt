@@ -7,4 +7,4 @@ pub returns : goal.returns
 returns c =
     let a = c.args in
     let front = ap (λ x. x.now) c.unwrap_or.ensures ∙ front_of a.c.now a.n _ _ c.get.ensures.lookup refl in
-    record { told = c.play.ensures.told ∙ ap (λ x. played_as a.tag x a.x.now a.e.now) front; short = c.play.ensures.short }
+    c.play.ensures ∙ ap (λ x. played_as a.tag x a.x.now a.e.now) front

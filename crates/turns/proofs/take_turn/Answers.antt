@@ -4,9 +4,8 @@ use Prim.Native.Nat.{ℕ}
 use lib.ListN.{take}
 use Rattle.telling.proofs.Naming.{front_of}
 use Rattle.forms.proofs.Laying.{lays_as}
-use Rattle.turns.specs.declared.Acted.{Acted}
 use Rattle.turns.specs.Steps.{expected_in}
-use Rattle.turns.specs.Acts.{acted_by}
+use Rattle.turns.specs.Acts.{Act, acted_by}
 use Rattle.turns.specs.Lines.{told_of}
 use Rattle.turns.proofs.Taking.{Reads, acted_line, told_line}
 use Rattle.turns.proofs.take_turn.Goals as goal
@@ -21,7 +20,7 @@ returns c =
     let x = l.new.random in
     let w = c.unwrap_or-e.result.now in
     record {
-      turn = c.turned.ensures.turn ∙ ap (λ m. (acted_by m a.tag l.new.command x w a.d.now).turn) c.asked.ensures ∙ ap (λ (u : Acted). u.turn) (acted_line h a.tag a.d.now);
+      turn = c.turned.ensures.turn ∙ ap (λ m. (acted_by m a.tag l.new.command x w a.d.now).turn) c.asked.ensures ∙ ap (λ (u : Act). u.turn) (acted_line h a.tag a.d.now);
       text = lays_as c.turned.ensures.text
           (ap (λ m. told_of a.number m l.new.command w (acted_by m a.tag l.new.command x w a.d.now)) c.asked.ensures ∙ told_line h a.number a.tag a.d.now);
     }
