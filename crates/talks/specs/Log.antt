@@ -2,13 +2,14 @@
 use Rattle.std.specs.Prelude.{Result, Ok, Err, Bool, true, false, List, [], ◌∷◌, ℕ, suc, ◌+◌, ◌-◌, ◌/◌, min, eqb, leb, ltb, length, take, drop}
 use Rattle.base.specs.Decide.{pick, or}
 use Rattle.base.specs.Bytes.{byte_at}
+use Rattle.buffers.specs.declared.buffer.Buffer.{Buffer}
+use Rattle.buffers.specs.Text.{text_of}
 use Rattle.lines.specs.Lines.{before, seek}
 use Rattle.lines.specs.Hex.{is_hex, bytes_of}
 use Rattle.lines.specs.declared.DecodeError.{DecodeError}
 use Rattle.lines.specs.declared.DecodeError.TheVariants.{NotHex, RoomTooSmall}
 use Rattle.talks.specs.declared.Unread.{Unread}
 use Rattle.talks.specs.declared.Unread.TheVariants.{NotCapitalHex, TooLong, Missing}
-use Rattle.talks.specs.declared.Field.{Field}
 
 -- neither a newline nor a carriage return
 unfoldable pub solid : ℕ → Bool
@@ -50,9 +51,9 @@ field_in s = pick (is_hex s) (pick (leb (length s / 2) 300) (Ok (bytes_of s)) (E
 unfoldable pub field_at : List ℕ → ℕ → Result (List ℕ) Unread
 field_at s i = pick (ltb i (length s)) (field_in (line_at s i)) (Err Missing)
 
--- what a field holds
-abbrev pub read_as : Result Field Unread → Result (List ℕ) Unread
-read_as (Ok f) = Ok (take f.length f.bytes)
+-- what was read of a line
+abbrev pub read_as : Result (Buffer 300) Unread → Result (List ℕ) Unread
+read_as (Ok f) = Ok (text_of f)
 read_as (Err e) = Err e
 
 -- the house's numbers of what a line is: 0 for one that can be read

@@ -1,10 +1,11 @@
 // One exchange: its lines read, the command played, our answer compared with the logged reply.
-ghost use Rattle.std.specs.Prelude.{true, ◌≡◌, ◌≤◌, is_none, IfSome};
+ghost use Rattle.std.specs.Prelude.{true, ◌≡◌, ◌≤◌, is_none};
 ghost use Rattle.tag.specs.Call.{refusal_number};
 ghost use Rattle.talks.specs.Log.{field_at};
 ghost use Rattle.talks.specs.Verdict.{another, differs, unread, broken, unplayed};
 
-use crate::{Field, Played, log, report};
+use crate::{Played, log, report};
+use buffers::Buffer;
 use state::Tag;
 use tag::Outcome;
 
@@ -89,9 +90,8 @@ fn unplayed(t: Tag) -> Played
 
 // The line that begins at a place; one that can't be read is named.
 #[tactic(auto, unfolding(crate::specs::Verdict::unread))]
-fn line_at(rt: &impl Print, text: &[u8], at: usize, line: u64) -> Option<Field>
-    ensures told { is_none result ≡ unread (field_at text.now at) }
-    ensures fits { IfSome result (λ f. f.length ≤ 300) }
+fn line_at(rt: &impl Print, text: &[u8], at: usize, line: u64) -> Option<Buffer<300>>
+    ensures { is_none result ≡ unread (field_at text.now at) }
 {
     match log::read(text, at) {
         Ok(field) => Some(field),
@@ -128,8 +128,8 @@ pub fn run(rt: &impl Print, t: Tag, text: &[u8], at: usize, number: u64) -> Play
         rt,
         t,
         number,
-        &asked.bytes[..asked.length],
-        &logged.bytes[..logged.length],
-        &drawn.bytes[..drawn.length],
+        asked.as_slice(),
+        logged.as_slice(),
+        drawn.as_slice(),
     )
 }

@@ -1,8 +1,9 @@
 // The lines of a log. A line ends at a newline or at the end; a carriage return before that does not count.
-ghost use Rattle.std.specs.Prelude.{◌≡◌, ◌≤◌, IfOk};
+ghost use Rattle.std.specs.Prelude.{◌≡◌};
 ghost use Rattle.talks.specs.Log.{solid, trimmed, counted, without_return, next_line, after_three, read_as, field_in, field_at};
 
-use crate::{Field, Unread};
+use crate::Unread;
+use buffers::Buffer;
 
 // Whether a byte is no part of a line's end.
 #[tactic(auto, unfolding(crate::specs::Log::solid))]
@@ -57,26 +58,23 @@ fn counted(line: &[u8]) -> usize
 
 // The bytes of a text of digits, or why there are none.
 #[tactic(auto, using(crate::proofs::Reading::digits_front), unfolding(crate::specs::Log::field_in, lines::specs::Hex::decoded, lines::specs::Hex::decoded_room))]
-fn of_digits(digits: &[u8]) -> Result<Field, Unread>
-    ensures told { read_as result ≡ field_in digits.now }
-    ensures fits { IfOk result (λ f. f.length ≤ 300) }
+fn of_digits(digits: &[u8]) -> Result<Buffer<300>, Unread>
+    ensures { read_as result ≡ field_in digits.now }
 {
     let mut bytes = [0u8; 300];
     let length = lines::decode(digits, &mut bytes)?;
-    Ok(Field { length, bytes })
+    Ok(Buffer { bytes, length })
 }
 
-fn of_line(line: &[u8]) -> Result<Field, Unread>
-    ensures told { read_as result ≡ field_in (without_return line.now) }
-    ensures fits { IfOk result (λ f. f.length ≤ 300) }
+fn of_line(line: &[u8]) -> Result<Buffer<300>, Unread>
+    ensures { read_as result ≡ field_in (without_return line.now) }
 {
     of_digits(&line[..counted(line)])
 }
 
 // The line that begins at a place.
-pub fn read(text: &[u8], at: usize) -> Result<Field, Unread>
-    ensures told { read_as result ≡ field_at text.now at }
-    ensures fits { IfOk result (λ f. f.length ≤ 300) }
+pub fn read(text: &[u8], at: usize) -> Result<Buffer<300>, Unread>
+    ensures { read_as result ≡ field_at text.now at }
 {
     if text.len() <= at {
         return Err(Unread::Missing);

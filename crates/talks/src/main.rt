@@ -32,13 +32,6 @@ impl From<DecodeError> for Unread {
     }
 }
 
-// The bytes of a line, at the front of a room.
-#[derive(Clone, Copy)]
-pub struct Field {
-    pub length: usize,
-    pub bytes: [u8; 300],
-}
-
 // Whether an exchange differs, and the tag after it.
 #[derive(Clone, Copy)]
 pub struct Played {
@@ -71,7 +64,7 @@ fn begin(rt: &impl Print, text: &[u8])
 {
     match log::read(text, 0) {
         Ok(uid) => {
-            match tag::fresh(&uid.bytes[..uid.length]) {
+            match tag::fresh(uid.as_slice()) {
                 Ok(fresh) => play_all(rt, text, fresh),
                 Err(_) => report::no_uid(rt),
             }

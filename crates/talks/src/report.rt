@@ -17,53 +17,43 @@ fn show(rt: &impl Print, bytes: &[u8]) {
 
 // The number of an exchange, and the logged reply.
 fn start(rt: &impl Print, number: u64, logged: &[u8]) {
-    let _ = rt.print(number);
-    let _ = rt.write_all(b" ");
+    let _ = print!(rt; "{number} ");
     show(rt, logged);
-    let _ = rt.write_all(b" ");
+    let _ = print!(rt; " ");
 }
 
 pub fn another(rt: &impl Print, number: u64, logged: &[u8], ours: &[u8]) {
     start(rt, number, logged);
     show(rt, ours);
-    let _ = rt.write_all(b"\n");
+    let _ = println!(rt);
 }
 
 pub fn refusal(rt: &impl Print, number: u64, logged: &[u8], which: u64) {
     start(rt, number, logged);
-    let _ = rt.write_all(b"refusal ");
-    let _ = rt.print(which);
-    let _ = rt.write_all(b"\n");
+    let _ = println!(rt; "refusal {which}");
 }
 
 // A length past the room is no reply.
 pub fn no_reply(rt: &impl Print, number: u64, logged: &[u8]) {
     start(rt, number, logged);
-    let _ = rt.write_all(b"no reply\n");
+    let _ = println!(rt; "no reply");
 }
 
-fn fault(rt: &impl Print, line: u64, what: &[u8]) {
-    let _ = rt.write_all(b"line ");
-    let _ = rt.print(line);
-    let _ = rt.write_all(b": ");
-    let _ = rt.write_all(what);
-    let _ = rt.write_all(b"\n");
+fn fault(rt: &impl Print, line: u64, what: &str) {
+    let _ = println!(rt; "line {line}: {what}");
 }
 
 // Names a line that can't be read.
 pub fn faulty(rt: &impl Print, line: u64, why: Unread) {
     match why {
-        Unread::NotCapitalHex => fault(rt, line, b"not capital hexadecimal"),
-        Unread::TooLong => fault(rt, line, b"longer than 300 bytes"),
-        Unread::Missing => fault(rt, line, b"the log breaks off"),
+        Unread::NotCapitalHex => fault(rt, line, "not capital hexadecimal"),
+        Unread::TooLong => fault(rt, line, "longer than 300 bytes"),
+        Unread::Missing => fault(rt, line, "the log breaks off"),
     }
 }
 
 pub fn totals(rt: &impl Print, exchanges: u64, differ: u64) {
-    let _ = rt.print(exchanges);
-    let _ = rt.write_all(b" exchanges, ");
-    let _ = rt.print(differ);
-    let _ = rt.write_all(b" differ\n");
+    let _ = println!(rt; "{exchanges} exchanges, {differ} differ");
 }
 
 // A log that is refused has no exchange and differs.
@@ -72,11 +62,11 @@ pub fn none_played(rt: &impl Print) {
 }
 
 pub fn no_uid(rt: &impl Print) {
-    fault(rt, 1, b"no UID of a tag");
+    fault(rt, 1, "no UID of a tag");
     none_played(rt);
 }
 
 pub fn too_long(rt: &impl Print) {
-    let _ = rt.write_all(b"the log is longer than 524288 bytes\n");
+    let _ = println!(rt; "the log is longer than 524288 bytes");
     none_played(rt);
 }

@@ -14,7 +14,4 @@ slice_bounds-of_digits-end c =
 
 pub returns : goal.returns
 unfolding without_return
-returns c = record {
-  told = c.of_digits.ensures.told ∙ ap (λ k. field_in (take k c.args.line.now)) c.counted.ensures;
-  fits = c.of_digits.ensures.fits;
-}
+returns c = c.of_digits.ensures ∙ ap (λ k. field_in (take k c.args.line.now)) c.counted.ensures

@@ -16,12 +16,9 @@ slice_bounds-of_line-end c = let a = c.args in (end_bounds a.text.now a.at c.fin
 
 pub returns-then-text-at : goal.returns-then-text-at
 unfolding field_at
-returns-then-text-at c = record { told = rw (le-ltb c.args.at _ c.if-text-at.true) refl; fits = tt }
+returns-then-text-at c = rw (le-ltb c.args.at _ c.if-text-at.true) refl
 
 pub returns : goal.returns
 returns c =
     let a = c.args in
-    record {
-      told = c.of_line.ensures.told ∙ line_found a.text.now a.at c.find-end.result c.if-text-at.false c.find-end.ensures;
-      fits = c.of_line.ensures.fits;
-    }
+    c.of_line.ensures ∙ line_found a.text.now a.at c.find-end.result c.if-text-at.false c.find-end.ensures
