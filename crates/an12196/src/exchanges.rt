@@ -1,6 +1,4 @@
 // ChangeFileSettings and ChangeKey in Full: the commands opened, the replies closed.
-ghost use Rattle.std.specs.Prelude.{◌<◌};
-
 use crate::tally::Tally;
 use crate::{file_settings, key_changes, mutual};
 use messaging::{Mode, Session};
@@ -35,9 +33,7 @@ pub fn command<const N: usize>(
     cmd: u8,
     x: &[u8; N],
     plain: &[u8],
-)
-    requires { 1 < N }
-{
+) {
     let mut room = [0; 256];
     let opened = opening::open(s, Mode::Full, cmd, x, 1, true, &mut room);
     let right = match opened.data {
@@ -46,7 +42,9 @@ pub fn command<const N: usize>(
     };
     tally.count(rt, name, right);
     let mut changed = *x;
-    changed[1] ^= 1;
+    if let Some(byte) = changed.get_mut(1) {
+        *byte ^= 1;
+    }
     let refused = opening::open(s, Mode::Full, cmd, &changed, 1, true, &mut room);
     tally.count(rt, name, refused.data == Err(NotOpened::WrongMac));
 }

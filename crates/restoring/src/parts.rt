@@ -85,12 +85,11 @@ fn pending_in(s: &[u8]) -> Pending
 
 #[tactic(auto, unfolding(image::specs::Image::place_in))]
 fn place_in(s: &[u8]) -> Place
-    requires { length s.now ≡ 2 }
     ensures { result ≡ place_in s.now }
 {
     Place {
-        application: s[0] == 1,
-        file: s[1],
+        application: base::at(s, 0) == 1,
+        file: base::at(s, 1),
     }
 }
 
