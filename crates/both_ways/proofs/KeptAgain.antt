@@ -9,7 +9,7 @@ use Rattle.soundness.specs.Sound.{sound_tag}
 use Rattle.image.specs.Image.{image_of}
 use Rattle.image.proofs.Shapes.{Shaped}
 use Rattle.keeping.specs.declared.NoStart.TheVariants.{Unsound, OtherUid}
-use Rattle.keeping.specs.Keep.{earlier, kept_by, kept_in}
+use Rattle.keeping.specs.Keep.{earlier, not_kept, kept_by, kept_in}
 use Rattle.both_ways.proofs.Roundtrip.{image_whole}
 
 -- a sound tag whose image was written is what the next run starts from
@@ -17,4 +17,4 @@ pub kept_again : (t : Tag) → Shaped t → sound_tag t ≡ true → kept_in (im
 unfolding kept_in kept_by
 kept_again t h e =
     ap (λ r. kept_by r (earlier (image_of t)) t.uid) (image_whole t h)
-    ∙ (λ i. pick (e i) (pick (same_refl t.uid i) (Ok t) (Err OtherUid)) (Err Unsound))
+    ∙ (λ i. pick (e i) (pick (same_refl t.uid i) (Ok t) (Err (not_kept OtherUid t))) (Err (not_kept Unsound t)))

@@ -8,7 +8,7 @@ use lib.Dec.{eqb, leb, lit<}
 use lib.ListN.{length, get_or, take}
 use lib.Seq.{take-length}
 use borrow.Author.Tests.{eq-eqb, eqb-true, leb-true}
-use Rattle.std.specs.Prelude.{Ok, Err}
+use Rattle.std.specs.Prelude.{Ok}
 use Rattle.std.specs.Result.{is_ok}
 use Rattle.base.specs.Decide.{pick, and}
 use Rattle.base.specs.Bytes.{byte_at, number, AllBytes}
@@ -24,7 +24,7 @@ use Rattle.state.specs.declared.Tag.{Tag}
 use Rattle.image.specs.declared.NoImage.TheVariants.{WrongLength, WrongVersion, NotABoolean}
 use Rattle.image.specs.Image.{image_version, join, bytes_from, flag_byte, flag, file_pieces, secret_pieces, live_pieces, pending_pieces, place_bytes}
 use Rattle.image.specs.Image.{tap_pieces, tag_pieces, image_of, files_in, secrets_in, live_in, pending_in, place_in, tap_in, tag_in}
-use Rattle.image.specs.Answers.{bits_at, booleans, right_length, read_in}
+use Rattle.image.specs.Answers.{bits_at, booleans, right_length, refused_as, read_in}
 use Rattle.image.proofs.Shapes.{FilesShaped, SecretsShaped, LiveShaped, PendingShaped, TapShaped, Shaped, file_widths, secret_widths, live_widths, pending_widths, tap_widths}
 use Rattle.image.proofs.Pieces.{lengths, sum, joined_length, piece, cut_join, bytes-from-length, bytes-from-bytes, bytes-from_one, bytes-from-tab, bytes-from-low}
 
@@ -201,7 +201,7 @@ bits_below s (i ∷ is) e zero h = leb-true (byte_at s i) 1 (and_left _ _ e)
 bits_below s (i ∷ is) e (suc k) h = bits_below s is (and_right (leb (byte_at s i) 1) _ e) k (omega arith)
 
 none_refused : (a b c : Bool) (t u : Tag)
-    → pick a (pick b (pick c (Ok t) (Err NotABoolean)) (Err WrongVersion)) (Err WrongLength) ≡ Ok u
+    → pick a (pick b (pick c (Ok t) (refused_as NotABoolean)) (refused_as WrongVersion)) (refused_as WrongLength) ≡ Ok u
     → and a (and b c) ≡ true
 none_refused true true true t u e = refl
 none_refused true true false t u e = ap is_ok e

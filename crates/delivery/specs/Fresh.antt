@@ -41,7 +41,7 @@ no_secrets = record { keys = replicate 80 0; versions = replicate 5 0 }
 abbrev pub no_tap : Tapping
 no_tap = record { on = false; iso = false; counter = 0; padding = no_padding }
 
--- every byte and number 0: what stands for bytes that hold no state
+-- every byte and number 0: the state beside refusal 4, and what stands for bytes that hold no state
 unfoldable pub blank : Tag
 blank =
     record {
@@ -77,7 +77,7 @@ made_number (Ok t) = 0
 made_number (Err e) = 4
 
 unfoldable pub born : List ℕ → Result Tag WrongUid
-born uid = pick (right_uid uid) (Ok (fresh_tag uid)) (Err (record {}))
+born uid = pick (right_uid uid) (Ok (fresh_tag uid)) (Err (record { beside = blank }))
 
 pub record Births (uid : List ℕ) (r : Result Tag WrongUid) : Type 0 where
   pub number : made_number r ≡ pick (right_uid uid) 0 4

@@ -1,6 +1,6 @@
 // A fresh tag: the delivery contents and rights, small constant tables copied into it.
 ghost use Rattle.std.specs.Prelude.{◌≡◌};
-ghost use Rattle.delivery.specs.Fresh.{delivered_files, Births};
+ghost use Rattle.delivery.specs.Fresh.{blank, delivered_files, Births};
 
 use crate::WrongUid;
 use state::{Files, Place, Secrets, Tag, Tapping};
@@ -16,6 +16,37 @@ const FIRST: [u8; 3] = [0x00, 0x00, 0xE0];
 const SECOND: [u8; 3] = [0x00, 0xE0, 0xEE];
 
 const THIRD: [u8; 3] = [0x03, 0x30, 0x23];
+
+// The state with every byte and number 0: it is beside a refusal where there is no tag. It is not sound.
+#[tactic(auto, unfolding(crate::specs::Fresh::blank))]
+pub fn blank() -> Tag
+    ensures { result ≡ blank }
+{
+    Tag {
+        uid: [0; 7],
+        files: Files {
+            bytes: [0; 416],
+            rules: [0; 81],
+            lens: [0; 3],
+        },
+        secrets: Secrets {
+            keys: [0; 80],
+            versions: [0; 5],
+        },
+        live: state::no_live(),
+        pending: state::no_pending(),
+        place: Place {
+            application: false,
+            file: 0,
+        },
+        tap: Tapping {
+            on: false,
+            iso: false,
+            counter: 0,
+            padding: [0; 12],
+        },
+    }
+}
 
 // The files as delivered.
 fn delivered() -> Files
@@ -34,13 +65,13 @@ fn delivered() -> Files
     }
 }
 
-// A fresh tag with a UID, or refusal 4.
+// A fresh tag with a UID, or refusal 4 with the state of zeros beside it.
 #[tactic(auto, unfolding(crate::specs::Fresh::born, crate::specs::Fresh::right_uid, crate::specs::Fresh::made_number, crate::specs::Fresh::fresh_tag))]
 pub fn fresh(uid: &[u8]) -> Result<Tag, WrongUid>
     ensures { Births uid.now result }
 {
     if uid.len() != 7 || uid[0] != 4 {
-        return Err(WrongUid);
+        return Err(WrongUid { beside: blank() });
     }
     let mut own = [0; 7];
     own.copy_from_slice(uid);

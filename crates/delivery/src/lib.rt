@@ -3,8 +3,11 @@
 
 mod delivery;
 
-pub use delivery::fresh;
+pub use delivery::{blank, fresh};
+use state::Tag;
 
-// Refusal 4.
-#[derive(Clone, Copy, Debug, PartialEq, Eq)]
-pub struct WrongUid;
+// Refusal 4, and the state beside it: every byte and number of it is 0.
+#[derive(Clone, Copy)]
+pub struct WrongUid {
+    pub beside: Tag,
+}

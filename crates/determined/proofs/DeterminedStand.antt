@@ -3,9 +3,11 @@
 use Rattle.std.specs.Prelude.{Option, Result}
 use Rattle.keeping.specs.declared.NoStart.TheVariants.{NoUid}
 use Rattle.keeping.specs.declared.NoStart.{NoStart}
+use Rattle.keeping.specs.declared.NotKept.{NotKept}
 use Rattle.delivery.specs.declared.WrongUid.{WrongUid}
 use Rattle.image.specs.declared.OtherLength.{OtherLength}
 use Rattle.image.specs.declared.NoImage.{NoImage}
+use Rattle.image.specs.declared.NotRead.{NotRead}
 use Rattle.plans.specs.declared.Reason.{Reason}
 use Rattle.plans.specs.Plan.{decode_reason}
 use Rattle.lines.specs.declared.DecodeError.{DecodeError}
@@ -34,7 +36,7 @@ use Rattle.plans.specs.Numbers.{Means}
 use Rattle.plans.specs.declared.Line.{Line}
 use Rattle.plans.specs.declared.Meaning.{Meaning}
 use Rattle.verdict.specs.Replies.{differing, refusing, status_in}
-use Rattle.keeping.specs.Keep.{start_by, Keeps, Starts}
+use Rattle.keeping.specs.Keep.{not_kept, start_by, Keeps, Starts}
 use Rattle.arguments.specs.Arguments.{Asks, beside_length, beside_room}
 use Rattle.arguments.specs.declared.Asked.{Asked}
 use Rattle.forms.specs.Rooms.{Writes, Lays}
@@ -74,7 +76,7 @@ make_determined uid state r q new other p h = twice r q new other (p.number, p.l
 
 -- ---- restoring
 pub from_image_determined : (s : List ℕ)
-    → Determined (λ (r : Result Tag NoImage). (r ≡ read_in s) × (found_number r ≡ pick (right_length s) (pick (and (eqb (byte_at s 0) image_version) (bits_at s booleans)) 0 1003) 1005))
+    → Determined (λ (r : Result Tag NotRead). (r ≡ read_in s) × (found_number r ≡ pick (right_length s) (pick (and (eqb (byte_at s 0) image_version) (bits_at s booleans)) 0 1003) 1005))
 from_image_determined s r q p h = once r q p.0 h.0
 
 -- ---- playing
@@ -137,10 +139,10 @@ pub differs_determined : (expected reply : List ℕ) → Determined (λ (r : Boo
 differs_determined expected reply = once
 
 -- ---- keeping
-pub kept_determined : (s uid : List ℕ) → Determined (λ (r : Result Tag NoStart). Keeps s uid r)
+pub kept_determined : (s uid : List ℕ) → Determined (λ (r : Result Tag NotKept). Keeps s uid r)
 kept_determined s uid r q p h = once r q p.told h.told
 
-pub anew_determined : (uid : List ℕ) → Determined (λ (r : Result Tag NoStart). Starts uid r)
+pub anew_determined : (uid : List ℕ) → Determined (λ (r : Result Tag NotKept). Starts uid r)
 anew_determined uid r q p h = once r q p.told h.told
 
 pub NoStart_from_WrongUid_determined : (_ : WrongUid) → Determined (λ (e : NoStart). e ≡ NoUid)
@@ -148,6 +150,12 @@ NoStart_from_WrongUid_determined _ = once
 
 pub NoStart_from_NoImage_determined : (found : NoImage) → Determined (λ (e : NoStart). e ≡ start_by found false)
 NoStart_from_NoImage_determined found = once
+
+pub NotKept_from_WrongUid_determined : (e : WrongUid) → Determined (λ (k : NotKept). k ≡ not_kept NoUid e.beside)
+NotKept_from_WrongUid_determined e = once
+
+pub NotKept_from_NotRead_determined : (e : NotRead) → Determined (λ (k : NotKept). k ≡ not_kept (start_by e.why false) e.beside)
+NotKept_from_NotRead_determined e = once
 
 -- ---- arguments
 pub asks_determined : (count : ℕ) (named : Bool) → Determined (λ (r : Result Asked BadArguments). Asks count named r)

@@ -42,7 +42,7 @@ use Rattle.access.specs.declared.Marks.{Marks}
 use Rattle.access.specs.Marks.{marks_of}
 use Rattle.access.specs.Access.{decided}
 use Rattle.binaries.specs.Binaries.{binary}
-use Rattle.delivery.specs.Fresh.{Births}
+use Rattle.delivery.specs.Fresh.{blank, Births}
 use Rattle.soundness.specs.Sound.{sound_tag, judged_tag}
 use Rattle.change_settings.specs.ChangeSettings.{changed_settings}
 use Rattle.part_two.specs.PartTwo.{part_two_answer}
@@ -212,6 +212,9 @@ pub binary_determined : (tag : Tag) (k : Command) (r : Reading) (d : Decision) (
 binary_determined tag k r d x random asked = gives_once
 
 -- ---- delivery
+pub blank_determined : Determined (λ (r : Tag). r ≡ blank)
+blank_determined = once
+
 pub fresh_determined : (uid : List ℕ) → Determined (λ (r : Result Tag WrongUid). Births uid r)
 fresh_determined uid = births_once
 

@@ -3,8 +3,6 @@
 
 ghost use Rattle.making.specs.Making.{Makes};
 
-use delivery::WrongUid;
-
 // The image of a fresh tag with a UID.
 #[tactic(auto, unfolding(delivery::specs::Fresh::made_number, image::specs::Answers::right_length, image::specs::Answers::stored_in, image::specs::Answers::image_in))]
 pub fn make(uid: &[u8], state: &mut [u8]) -> usize
@@ -18,6 +16,6 @@ pub fn make(uid: &[u8], state: &mut [u8]) -> usize
             storing::to_image(tag, state).unwrap();
             0
         }
-        Err(WrongUid) => 1004,
+        Err(_) => 1004,
     }
 }

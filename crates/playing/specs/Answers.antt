@@ -1,10 +1,9 @@
 -- A call at the C border: the number that each case is answered with, and what image, room and journal hold then.
-use Rattle.std.specs.Prelude.{Bool, true, false, List, ◌∷◌, ◌++◌, ◌≡◌, ℕ, ◌+◌, eqb, leb, length, replicate, Option}
-use Rattle.std.specs.Result.{result_unwrap_or}
+use Rattle.std.specs.Prelude.{Bool, true, false, List, ◌∷◌, ◌++◌, ◌≡◌, ℕ, ◌+◌, eqb, leb, length, replicate, Option, Result, Ok, Err}
 use Rattle.base.specs.Decide.{pick, and}
 use Rattle.base.specs.Bytes.{low}
 use Rattle.state.specs.declared.Tag.{Tag}
-use Rattle.delivery.specs.Fresh.{blank}
+use Rattle.image.specs.declared.NotRead.{NotRead}
 use Rattle.image.specs.Image.{image_of}
 use Rattle.image.specs.Answers.{right_length, read_in}
 use Rattle.making.specs.Making.{wrong_image}
@@ -52,9 +51,14 @@ pub record Answers (t : Tag) (image c random room : List ℕ) (r : ℕ) (image' 
   pub notes : journal' ≡ journal_of (noted_by (noted t c) (outcome_of t random room)) (cost_by (answered t c random) (outcome_of t random room))
   pub apart : leb r 258 ≡ is_reply (outcome_of t random room)
 
+-- what was read, or the state beside the refusal
+abbrev pub read_or_beside : Result Tag NotRead → Tag
+read_or_beside (Ok t) = t
+read_or_beside (Err e) = e.beside
+
 -- the state in an image; bytes of its length that hold none stand for a state of zeros, which is not sound
 abbrev pub state_in : List ℕ → Tag
-state_in image = result_unwrap_or (read_in image) blank
+state_in image = read_or_beside (read_in image)
 
 -- a journal of another length; this comes next after the image's
 abbrev pub wrong_journal : ℕ

@@ -2,11 +2,11 @@
 #![tactic(auto)]
 
 ghost use Rattle.std.specs.Prelude.{◌≡◌, length};
-ghost use Rattle.delivery.specs.Fresh.{blank};
-ghost use Rattle.playing.specs.Answers.{journal_of, Answers, Plays};
+ghost use Rattle.playing.specs.Answers.{journal_of, Answers, read_or_beside, Plays};
 
 use access::Grant;
-use state::{Files, Place, Secrets, Tag, Tapping};
+use image::NotRead;
+use state::Tag;
 use tag::Outcome;
 
 // What a call notes and what it cost, over the journal.
@@ -49,34 +49,13 @@ fn answer(
     }
 }
 
-// Every byte and number 0: what bytes that hold no state are judged as. It is not sound.
-#[tactic(auto, unfolding(delivery::specs::Fresh::blank))]
-fn zeroed() -> Tag
-    ensures { result ≡ blank }
+// What was read of an image, or the state beside the refusal.
+fn read_or_beside(read: Result<Tag, NotRead>) -> Tag
+    ensures { result ≡ read_or_beside read }
 {
-    Tag {
-        uid: [0; 7],
-        files: Files {
-            bytes: [0; 416],
-            rules: [0; 81],
-            lens: [0; 3],
-        },
-        secrets: Secrets {
-            keys: [0; 80],
-            versions: [0; 5],
-        },
-        live: state::no_live(),
-        pending: state::no_pending(),
-        place: Place {
-            application: false,
-            file: 0,
-        },
-        tap: Tapping {
-            on: false,
-            iso: false,
-            counter: 0,
-            padding: [0; 12],
-        },
+    match read {
+        Ok(tag) => tag,
+        Err(e) => e.beside,
     }
 }
 
@@ -97,6 +76,6 @@ pub fn play(
     if journal.len() != 16 {
         return 1007;
     }
-    let tag = restoring::from_image(state).unwrap_or(zeroed());
+    let tag = read_or_beside(restoring::from_image(state));
     answer(tag, state, command, random, room, journal)
 }

@@ -26,12 +26,12 @@ fn resumed(mut file: impl Read + Drop, uid: &[u8; 7]) -> Result<Tag, NoStart> {
     let mut s = [0u8; 685];
     let n = reading::read_full(&mut file, &mut s);
     drop(file);
-    keeping::kept(&s[..n], uid)
+    keeping::kept(&s[..n], uid).map_err(|e| e.why)
 }
 
 // The tag of the file, or a fresh one where there is no file or none is named.
 fn begin(rt: &impl Files, err: &impl Print, path: &[u8], uid: &[u8; 7]) -> Result<Tag, NoStart> {
-    let fresh = keeping::anew(uid);
+    let fresh = keeping::anew(uid).map_err(|e| e.why);
     if path.is_empty() {
         return fresh;
     }

@@ -1,12 +1,21 @@
 // The parts of a state, from those of an image.
 ghost use Rattle.std.specs.Prelude.{◌≡◌, ◌+◌, ◌≤◌, length};
 ghost use Rattle.image.specs.Image.{bytes_from, files_in, secrets_in, live_in, pending_in, place_in, tap_in, tag_in};
-ghost use Rattle.image.specs.Answers.{bits_at, booleans};
+ghost use Rattle.image.specs.Answers.{bits_at, booleans, refused_as};
 
+use image::{NoImage, NotRead};
 use state::{Files, Live, Pending, Place, Secrets, Tag, Tapping};
 
 // Where the Booleans of an image stand.
 const BOOLEANS: [usize; 6] = [593, 633, 634, 664, 666, 667];
+
+// A refusal, with the state of zeros beside it.
+pub fn refused(why: NoImage) -> Result<Tag, NotRead>
+    ensures { result ≡ refused_as why }
+{
+    let beside = delivery::blank();
+    Err(NotRead { why, beside })
+}
 
 // Whether every Boolean byte is 0 or 1.
 pub fn bits_right(s: &[u8]) -> bool

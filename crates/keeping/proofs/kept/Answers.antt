@@ -14,7 +14,7 @@ not_false true e = refl
 not_false false e = e
 
 pub returns-then-is_earlier : goal.returns-then-is_earlier
-returns-then-is_earlier c = keeps_earlier _ _ (sym c.is_earlier.ensures ∙ c.if-is_earlier.true)
+returns-then-is_earlier c = keeps_earlier _ _ _ (sym c.is_earlier.ensures ∙ c.if-is_earlier.true) cc
 
 pub returns-in_err-tag : goal.returns-in_err-tag
 returns-in_err-tag c = keeps_none _ _ _ _ (sym c.if-is_earlier.false ∙ c.is_earlier.ensures) c.in_err-tag.ensures.told c.from_residual.ensures.1
@@ -22,14 +22,14 @@ returns-in_err-tag c = keeps_none _ _ _ _ (sym c.if-is_earlier.false ∙ c.is_ea
 pub returns-then-not-sound : goal.returns-then-not-sound
 returns-then-not-sound c =
     let told = c.in_ok-tag.ensures.told in
-    keeps_unsound _ _ c.in_ok-tag.tag (sym c.if-is_earlier.false ∙ c.is_earlier.ensures) told (sym c.sound.ensures ∙ c.if-not-sound.true)
+    keeps_unsound _ _ c.in_ok-tag.tag (sym c.if-is_earlier.false ∙ c.is_earlier.ensures) told _ (sym c.sound.ensures ∙ c.if-not-sound.true) cc
 
 pub returns-then-ne : goal.returns-then-ne
 returns-then-ne c =
     let uid = c.args.uid.now in
     let t = c.in_ok-tag.tag in
-    keeps_other _ uid t (sym c.if-is_earlier.false ∙ c.is_earlier.ensures) c.in_ok-tag.ensures.told (sym c.sound.ensures ∙ c.if-not-sound.false)
-    (sym (pointwise-same uid t.uid) ∙ not_true _ (sym c.if-ne.true ∙ c.ne.ensures))
+    keeps_other _ uid t (sym c.if-is_earlier.false ∙ c.is_earlier.ensures) c.in_ok-tag.ensures.told _ (sym c.sound.ensures ∙ c.if-not-sound.false)
+    (sym (pointwise-same uid t.uid) ∙ not_true _ (sym c.if-ne.true ∙ c.ne.ensures)) cc
 
 pub returns : goal.returns
 returns c =

@@ -1,6 +1,6 @@
 -- `playing::play` meets its contract.
-use mathlib.Core.Path.{◌∙◌}
-use Rattle.std.specs.Result.{result_unwrap_or}
+use mathlib.Core.Path.{ap, ◌∙◌}
+use Rattle.playing.specs.Answers.{read_or_beside}
 use Rattle.playing.proofs.Border.{wrong_plays, wrong_journal_lem, plays}
 use Rattle.playing.proofs.play.Goals as goal
 
@@ -19,4 +19,4 @@ pub returns : goal.returns
 returns c =
     let a = c.args in
     plays a.state.now a.command.now a.random.now a.room.now a.journal.now _ _ _ _ _ c.if-state-ne684.false c.if-journal-ne16.false
-    (c.unwrap_or-tag.ensures ∙ (λ i. result_unwrap_or (c.from_image.ensures.told i) (c.zeroed.ensures i))) c.answer.ensures
+    (c.read_or_beside-tag.ensures ∙ ap read_or_beside c.from_image.ensures.told) c.answer.ensures
