@@ -1,9 +1,9 @@
 // Settings strings normalised.
 #![tactic(auto)]
 
-ghost use Rattle.std.specs.Prelude.{◌≡◌, eqb, leb, ltb, set};
+ghost use Rattle.std.specs.Prelude.{◌≡◌, ◌≤◌, eqb, leb, length, ltb, set};
 ghost use Rattle.base.specs.Decide.{pick, or};
-ghost use Rattle.base.specs.Bytes.{same};
+ghost use Rattle.base.specs.Bytes.{laid, same};
 ghost use Rattle.fields.specs.Normal.{plain_mode, free_bits, normal};
 ghost use Rattle.settings.specs.Answers.{judged};
 ghost use Rattle.normalising.specs.declared.NotNormal.TheVariants.{Fault as Faulty};
@@ -49,6 +49,16 @@ fn adjust(room: &mut [u8], n: usize, i: usize, v: u8)
     }
 }
 
+// A string at the front of a room that has place for it. It goes byte by byte: both may be C's, and a copy at once needs memmove there.
+fn lay_front(s: &[u8], room: &mut [u8])
+    requires { length s.now ≤ length room.old }
+    ensures { room.new ≡ laid s.now 0 room.old }
+{
+    for i in 0..s.len() {
+        room[i] = s[i];
+    }
+}
+
 // The normal form of a good string: its bytes, two of them adjusted.
 #[tactic(auto, unfolding(crate::specs::Answers::normalised, crate::specs::Answers::normal_room))]
 fn lay_normal(s: &[u8], room: &mut [u8]) -> Result<usize, NotNormal>
@@ -59,7 +69,7 @@ fn lay_normal(s: &[u8], room: &mut [u8]) -> Result<usize, NotNormal>
     if room.len() < n {
         return Err(NotNormal::RoomTooSmall);
     }
-    base::put(s, room, 0);
+    lay_front(s, room);
     adjust(room, n, 0, plain_mode(base::at(s, 0)));
     adjust(room, n, 4, free_bits(fields::sdm_on(s), base::at(s, 4)));
     Ok(n)

@@ -24,8 +24,16 @@ fn secret_bytes(k: Secrets) -> [u8; 85]
     s
 }
 
-// Four pieces and a CmdCtr, one behind the other, over bytes of their length.
-fn with_counter(p: &[u8], q: &[u8], r: &[u8], ti: &[u8], counter: u16, s: &mut [u8])
+// Four pieces and a CmdCtr, one behind the other, over bytes of their length. The pieces have lengths of their own types, so that
+// each is copied in place and the library needs no memmove from outside.
+fn with_counter<const P: usize, const R: usize>(
+    p: &[u8; P],
+    q: &[u8; 16],
+    r: &[u8; R],
+    ti: &[u8; 4],
+    counter: u16,
+    s: &mut [u8],
+)
     requires { length p.now + (length q.now + (length r.now + (length ti.now + 2))) ≡ length s.old }
     ensures { s.new ≡ join (p.now ∷ q.now ∷ r.now ∷ ti.now ∷ low 2 counter ∷ []) }
 {

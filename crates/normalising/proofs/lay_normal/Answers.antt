@@ -21,7 +21,7 @@ returns-clause-left c =
     let free = c.free_bits.ensures ∙ ap₂ free_bits c.sdm_on.ensures c.at-2.ensures in
     let one =
     c.adjust.ensures
-    ∙ ap (λ (z : List ℕ). pick (ltb 0 (length s)) (set z 0 x) z) (c.put.ensures ∙ laid-front s d fits)
+    ∙ ap (λ (z : List ℕ). pick (ltb 0 (length s)) (set z 0 x) z) (c.lay_front.ensures ∙ laid-front s d fits)
     ∙ adjusted s d 0 x in
     let two =
     c.adjust-2.ensures
