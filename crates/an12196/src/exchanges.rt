@@ -52,11 +52,14 @@ pub fn command<const N: usize>(
 // A reply with no data in Full is its MAC alone.
 pub fn reply(rt: &impl Print, tally: &mut Tally, name: &str, s: Session, theirs: &[u8]) {
     let mut room = [0; 256];
-    let right = match closing::close(s, Mode::Full, 0, &mut room, 0) {
-        Ok(closed) => room.get(..closed.length) == Some(theirs),
-        Err(_) => false,
+    let length = match closing::close(s, Mode::Full, 0, &mut room, 0) {
+        Ok(closed) => closed.length,
+        Err(_) => return tally.count(rt, name, false),
     };
-    tally.count(rt, name, right);
+    match room.get(..length) {
+        Some(ours) => tally.compare(rt, name, ours, theirs),
+        None => tally.count(rt, name, false),
+    }
 }
 
 pub fn change_file_settings(rt: &impl Print, tally: &mut Tally) {

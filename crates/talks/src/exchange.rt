@@ -1,5 +1,6 @@
 // One exchange: its lines read, the command played, our answer compared with the logged reply.
-ghost use Rattle.std.specs.Prelude.{true, ◌≡◌, ◌≤◌, is_none};
+ghost use Rattle.std.specs.Prelude.{true, ◌≡◌, ◌≤◌, is_none, IfSome, Ok};
+ghost use Rattle.buffers.specs.Text.{text_of};
 ghost use Rattle.tag.specs.Call.{refusal_number};
 ghost use Rattle.talks.specs.Log.{field_at};
 ghost use Rattle.talks.specs.Verdict.{another, differs, unread, broken, unplayed};
@@ -88,10 +89,11 @@ fn unplayed(t: Tag) -> Played
     }
 }
 
-// The line that begins at a place; one that can't be read is named.
+// The bytes of the line that begins at a place; one that can't be read is named.
 #[tactic(auto, unfolding(crate::specs::Verdict::unread))]
 fn line_at(rt: &impl Print, text: &[u8], at: usize, line: u64) -> Option<Buffer<300>>
-    ensures { is_none result ≡ unread (field_at text.now at) }
+    ensures named { is_none result ≡ unread (field_at text.now at) }
+    ensures bytes { IfSome result (λ field. field_at text.now at ≡ Ok (text_of field)) }
 {
     match log::read(text, at) {
         Ok(field) => Some(field),
