@@ -2,10 +2,9 @@
 #![tactic(auto)]
 
 ghost use Rattle.std.specs.Prelude.{◌≡◌, length};
-ghost use Rattle.playing.specs.Answers.{journal_of, Answers, read_or_beside, Plays};
+ghost use Rattle.playing.specs.Answers.{journal_of, Answers, Plays};
 
 use access::Grant;
-use image::NotRead;
 use state::Tag;
 use tag::Outcome;
 
@@ -49,16 +48,6 @@ fn answer(
     }
 }
 
-// What was read of an image, or the state beside the refusal.
-fn read_or_beside(read: Result<Tag, NotRead>) -> Tag
-    ensures { result ≡ read_or_beside read }
-{
-    match read {
-        Ok(tag) => tag,
-        Err(e) => e.beside,
-    }
-}
-
 // The answer of the tag in an image to a command, with 20 random bytes, a room of 258 bytes or more and a journal of 16.
 pub fn play(
     state: &mut [u8],
@@ -76,6 +65,9 @@ pub fn play(
     if journal.len() != 16 {
         return 1007;
     }
-    let tag = read_or_beside(restoring::from_image(state));
-    answer(tag, state, command, random, room, journal)
+    // bytes that hold no state are judged by the state beside the refusal
+    match restoring::from_image(state) {
+        Ok(tag) => answer(tag, state, command, random, room, journal),
+        Err(e) => answer(e.beside, state, command, random, room, journal),
+    }
 }
